@@ -1,0 +1,5 @@
+pub mod Ranges
+pub mod Reading
+pub mod Kinds
+pub mod Events
+pub mod Effects

@@ -1,0 +1,4 @@
+pub mod Lines
+pub mod Direct
+pub mod Leaky
+pub mod Passing
