@@ -29,7 +29,7 @@ const PATTERN: u32 = 5;
 const TRIES: u32 = 32;
 
 /// Reads a commissioning sheet, seals its values into blocks, reads them back, and sends their number over a leaky line.
-pub fn run_sheet(rt: &LibcRuntime) -> Result<(), AnyError> {
+pub(crate) fn run_sheet(rt: &LibcRuntime) -> Result<(), AnyError> {
     let mut values = Vec::new(rt.alloc());
     let mut line = Line::new(rt.alloc());
     let mut number: u64 = 1;

@@ -21,18 +21,18 @@ pub enum Text<'a> {
 }
 
 impl Line {
-    pub fn new(heap: Global) -> Self {
+    pub(crate) fn new(heap: Global) -> Self {
         Line {
             bytes: Vec::new(heap),
             too_long: false,
         }
     }
 
-    pub fn is_empty(&self) -> bool {
+    pub(crate) fn is_empty(&self) -> bool {
         self.bytes.is_empty() && !self.too_long
     }
 
-    pub fn add(&mut self, byte: u8) -> Result<(), Refused<u8>> {
+    pub(crate) fn add(&mut self, byte: u8) -> Result<(), Refused<u8>> {
         if self.bytes.len() >= LONGEST {
             self.too_long = true;
             return Ok(());
@@ -40,13 +40,13 @@ impl Line {
         self.bytes.push(byte)
     }
 
-    pub fn clear(&mut self) {
+    pub(crate) fn clear(&mut self) {
         self.bytes.clear();
         self.too_long = false;
     }
 
     // What stands before a '#', as text.
-    pub fn text(&self) -> Text<'_> {
+    pub(crate) fn text(&self) -> Text<'_> {
         if self.too_long {
             return Text::TooLong;
         }

@@ -1,0 +1,12 @@
+use borrow.Author.Needs.{needs}
+use Rattle.store.proofs.Cards.{card-here, card-put}
+use Rattle.store.proofs.types.Core.load.Needs as need
+
+pub returns-in-Some : need.returns-in-Some
+returns-in-Some g c = record { does = search (needs, card-here); sound = c .pre }
+
+pub returns-in-rest-named : need.returns-in-rest-named
+returns-in-rest-named g c = record { does = search (needs, card-here); sound = c .pre }
+
+pub returns : need.returns
+returns g c = record { does = search (needs, card-here, card-put); sound = search needs }
