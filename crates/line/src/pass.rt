@@ -4,7 +4,7 @@ use crate::link::Line;
 
 /// Tries once to pass a number to a card, and says whether the card now has it.
 pub fn passes<L: Line>(line: &mut L, card: u8, number: u32) -> bool
-    ensures { Passed sends fetches card number line.old result line.new }
+    ensures { Passed L.sends L.fetches card number line.old result line.new }
 {
     line.send(card, number);
     match line.fetch(card) {

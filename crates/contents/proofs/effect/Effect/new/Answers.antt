@@ -8,8 +8,8 @@ use Rattle.contents.proofs.effect.Effect.new.Goals as goal
 pub returns-then-relay-lt1 : goal.returns-then-relay-lt1
 returns-then-relay-lt1 c = refuses _ OutOfRange (effect_none c.args.relay c.args.delay (λ p q. search rules))
 
-pub returns-then-delay-gt-LONGEST-DELAY : goal.returns-then-delay-gt-LONGEST-DELAY
-returns-then-delay-gt-LONGEST-DELAY c = refuses _ OutOfRange (effect_none c.args.relay c.args.delay (λ p q. omega arith))
+pub returns-then-delay-gt-LONGEST_DELAY : goal.returns-then-delay-gt-LONGEST_DELAY
+returns-then-delay-gt-LONGEST_DELAY c = refuses _ OutOfRange (effect_none c.args.relay c.args.delay (λ p q. omega arith))
 
 pub returns : goal.returns
 returns c = makes _ OutOfRange _ (effect_some c.args.relay c.args.delay _ _)

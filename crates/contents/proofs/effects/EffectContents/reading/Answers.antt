@@ -11,20 +11,20 @@ use Rattle.contents.proofs.effects.EffectContents.reading.Goals as goal
 same : (relay relay' : ℕ) (delay delay' : ℕ) → relay ≡ relay' → delay ≡ delay' → effect_of relay' delay' ≡ effect_of relay delay
 same relay relay' delay delay' e0 e1 = cc
 
-pub returns-in-default : goal.returns-in-default
+pub returns-in_default : goal.returns-in_default
 unfolding effect_read
-returns-in-default c =
+returns-in_default c =
     read_none effect_form c.args.bytes.now _
     (same c.from-le-bytes-relay.result (un16 c.args.bytes.now) c.from-le-bytes-delay.result (un16 (drop 2 c.args.bytes.now)) (search (rules, get_or-drop)) (search (rules, get_or-drop)) ∙ refused _ OutOfRange _ c.in-default.ensures)
 
-pub returns-then-same-form : goal.returns-then-same-form
+pub returns-then-same_form : goal.returns-then-same_form
 unfolding effect_read
-returns-then-same-form c =
+returns-then-same_form c =
     read_same effect_form c.args.bytes.now _ c.in-Ok.effect
     (same c.from-le-bytes-relay.result (un16 c.args.bytes.now) c.from-le-bytes-delay.result (un16 (drop 2 c.args.bytes.now)) (search (rules, get_or-drop)) (search (rules, get_or-drop)) ∙ made _ OutOfRange c.in-Ok.effect c.in-Ok.ensures) (c.if-same-form.ensures ∙ ap (λ f. bytes_eq f c.args.bytes.now) c.form.ensures)
 
-pub returns-else-same-form : goal.returns-else-same-form
+pub returns-else-same_form : goal.returns-else-same_form
 unfolding effect_read
-returns-else-same-form c =
+returns-else-same_form c =
     read_other effect_form c.args.bytes.now _ c.in-Ok.effect
     (same c.from-le-bytes-relay.result (un16 c.args.bytes.now) c.from-le-bytes-delay.result (un16 (drop 2 c.args.bytes.now)) (search (rules, get_or-drop)) (search (rules, get_or-drop)) ∙ made _ OutOfRange c.in-Ok.effect c.in-Ok.ensures) (c.if-same-form.ensures ∙ ap (λ f. bytes_eq f c.args.bytes.now) c.form.ensures)

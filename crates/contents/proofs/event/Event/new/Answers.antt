@@ -4,8 +4,8 @@ use Rattle.contents.specs.Readings.{refuses, makes}
 use Rattle.contents.specs.EventLaws.{event_some, event_none}
 use Rattle.contents.proofs.event.Event.new.Goals as goal
 
-pub returns-in-default : goal.returns-in-default
-returns-in-default c = refuses _ OutOfRange (event_none c.args.moment c.args.device c.args.zone c.args.kind (λ k e p q r. let z : ◌≡◌ {A = ℕ} 0 1 = cc c.in-default.ensures in omega arith))
+pub returns-in_default : goal.returns-in_default
+returns-in_default c = refuses _ OutOfRange (event_none c.args.moment c.args.device c.args.zone c.args.kind (λ k e p q r. let z : ◌≡◌ {A = ℕ} 0 1 = cc c.in_default.ensures in omega arith))
 
 pub returns-then-device-lt1 : goal.returns-then-device-lt1
 returns-then-device-lt1 c = refuses _ OutOfRange (event_none c.args.moment c.args.device c.args.zone c.args.kind (λ k e p q r. search rules))

@@ -11,20 +11,20 @@ use Rattle.contents.proofs.events.EventContents.reading.Goals as goal
 same : (moment moment' : ℕ) (device device' : ℕ) (zone zone' : ℕ) (kind : ℕ) → moment ≡ moment' → device ≡ device' → zone ≡ zone' → event_of moment' device' zone' kind ≡ event_of moment device zone kind
 same moment moment' device device' zone zone' kind e0 e1 e2 = cc
 
-pub returns-in-default : goal.returns-in-default
+pub returns-in_default : goal.returns-in_default
 unfolding event_read
-returns-in-default c =
+returns-in_default c =
     read_none event_form c.args.bytes.now _
     (same c.from-le-bytes-moment.result (un32 c.args.bytes.now) c.from-le-bytes-device.result (un16 (drop 4 c.args.bytes.now)) c.from-le-bytes-zone.result (un16 (drop 6 c.args.bytes.now)) (get_or c.args.bytes.now 8 0) (search (rules, get_or-drop)) (search (rules, get_or-drop)) (search (rules, get_or-drop)) ∙ refused _ OutOfRange _ c.in-default.ensures)
 
-pub returns-then-same-form : goal.returns-then-same-form
+pub returns-then-same_form : goal.returns-then-same_form
 unfolding event_read
-returns-then-same-form c =
+returns-then-same_form c =
     read_same event_form c.args.bytes.now _ c.in-Ok.event
     (same c.from-le-bytes-moment.result (un32 c.args.bytes.now) c.from-le-bytes-device.result (un16 (drop 4 c.args.bytes.now)) c.from-le-bytes-zone.result (un16 (drop 6 c.args.bytes.now)) (get_or c.args.bytes.now 8 0) (search (rules, get_or-drop)) (search (rules, get_or-drop)) (search (rules, get_or-drop)) ∙ made _ OutOfRange c.in-Ok.event c.in-Ok.ensures) (c.if-same-form.ensures ∙ ap (λ f. bytes_eq f c.args.bytes.now) c.form.ensures)
 
-pub returns-else-same-form : goal.returns-else-same-form
+pub returns-else-same_form : goal.returns-else-same_form
 unfolding event_read
-returns-else-same-form c =
+returns-else-same_form c =
     read_other event_form c.args.bytes.now _ c.in-Ok.event
     (same c.from-le-bytes-moment.result (un32 c.args.bytes.now) c.from-le-bytes-device.result (un16 (drop 4 c.args.bytes.now)) c.from-le-bytes-zone.result (un16 (drop 6 c.args.bytes.now)) (get_or c.args.bytes.now 8 0) (search (rules, get_or-drop)) (search (rules, get_or-drop)) (search (rules, get_or-drop)) ∙ made _ OutOfRange c.in-Ok.event c.in-Ok.ensures) (c.if-same-form.ensures ∙ ap (λ f. bytes_eq f c.args.bytes.now) c.form.ensures)

@@ -3,4 +3,4 @@ use Rattle.contents.proofs.kind.Kind.called.Goals as goal
 
 pub returns : goal.returns
 unfolding kind_called
-returns c = c.first-called.ensures
+returns c = c.first_called.ensures

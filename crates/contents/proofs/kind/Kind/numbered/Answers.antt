@@ -3,4 +3,4 @@ use Rattle.contents.proofs.kind.Kind.numbered.Goals as goal
 
 pub returns : goal.returns
 unfolding kind_numbered
-returns c = c.first-numbered.ensures
+returns c = c.first_numbered.ensures
