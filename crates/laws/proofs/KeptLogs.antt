@@ -26,6 +26,11 @@ of_pale a false c s d e = refl
 of_pale true true c s d e = grind arith
 of_pale false true c s d e = grind arith
 
+-- and holds them as they were
+of_draft : (b : Bool) (s d : List Name) → cond b (Some s) None ≡ Some d → d ≡ s
+of_draft true s d e = grind arith
+of_draft false s d e = grind arith
+
 module _ {C : Type 0} (w : World C) (m : Meaning) (I : Inv w m) (L : Logs w) where
   -- cells, colour and turns as before, phase no earlier, and no update in hand that was not there
   steady : (v : World C) → v.cells ≡ w.cells → v.marked ≡ w.marked → (late v.phase ≡ true → late w.phase ≡ true) → (marking v.phase ≡ true → marking w.phase ≡ true) →
@@ -72,7 +77,8 @@ module _ {C : Type 0} (w : World C) (m : Meaning) (I : Inv w m) (L : Logs w) whe
         ];
         fresh = λ l d u g j x b e s k n f. elim (kn.look_hand w m I c y i q d u a e) [
           | inl h ↦ L.fresh l d u g j x (grind frame) h.0.0 s k n f
-          | inr h ↦ let K : g ≡ read_all w (links_at w y) = grind (arith, h, s) in let T : link w y j ≡ Some x = grind (frame, K, f) in grind (arith, h, T)
+          | inr h ↦ let D : draft w c y ≡ Some g = grind (arith, h, s) in
+              let K : g ≡ read_all w (links_at w y) = of_draft ((card w c).logging && not (mark w y) && not (logged w y)) (read_all w (links_at w y)) g D in let T : link w y j ≡ Some x = grind (frame, K, f) in grind (arith, h, T)
         ];
       }
 

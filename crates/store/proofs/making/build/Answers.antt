@@ -14,9 +14,9 @@ returns g c =
     let n = length d.cells.now in
     let few : d.cards ≤ 8 = search rules in
     let t : stack d.waiting ≡ [] = stack_none d.waiting c.requires.4 in
-    let k : take d.cards (replicate 8 c.fresh-card-card.result) ≡ replicate d.cards c.fresh-card-card.result = take_same d.cards 8 c.fresh-card-card.result few in
+    let k : take d.cards (replicate 8 c.fresh_card-card.result) ≡ replicate d.cards c.fresh_card-card.result = take_same d.cards 8 c.fresh_card-card.result few in
     let a : take d.cards (replicate 8 false) ≡ replicate d.cards false = take_same d.cards 8 false few in
     let p : n ≤ spares (set (replicate n Free) 0 (Used c.newborn.result)) + 1 = made-spares n (Used c.newborn.result) in
-    let q : spares (set c.clear-cells.new.cells 0 (Used c.newborn.result)) ≡ spares (set (replicate n Free) 0 (Used c.newborn.result)) = ap (λ h. spares (set h 0 (Used c.newborn.result))) c.clear-cells.ensures in
-    let l : length c.clear-cells.new.cells ≡ n = ap length c.clear-cells.ensures ∙ length-replicate n Free in
+    let q : spares (set c.clear_cells.new.cells 0 (Used c.newborn.result)) ≡ spares (set (replicate n Free) 0 (Used c.newborn.result)) = ap (λ h. spares (set h 0 (Used c.newborn.result))) c.clear_cells.ensures in
+    let l : length c.clear_cells.new.cells ≡ n = ap length c.clear_cells.ensures ∙ length-replicate n Free in
     record { made = search (rules, t, k, a); sound = search rules }

@@ -5,8 +5,8 @@ use Rattle.store.proofs.parts.snoop.Goals as goal
 pub returns-in-Used : goal.returns-in-Used
 returns-in-Used c = record { does = search (rules, alter-used); room = search (rules, spares-same) }
 
-pub returns-in-default : goal.returns-in-default
-returns-in-default c = record { does = search (rules, kept_free); room = kept-spares c.args.cells.now c.args.x }
+pub returns-in_default : goal.returns-in_default
+returns-in_default c = record { does = search (rules, kept_free); room = kept-spares c.args.cells.now c.args.x }
 
 pub returns-else-at-cells : goal.returns-else-at-cells
 returns-else-at-cells c = record { does = search (rules, alter_past); room = refl }

@@ -15,16 +15,16 @@ pub returns-in_default : goal.returns-in_default
 unfolding effect_read
 returns-in_default c =
     read_none effect_form c.args.bytes.now _
-    (same c.from-le-bytes-relay.result (un16 c.args.bytes.now) c.from-le-bytes-delay.result (un16 (drop 2 c.args.bytes.now)) (search (rules, get_or-drop)) (search (rules, get_or-drop)) ∙ refused _ OutOfRange _ c.in-default.ensures)
+    (same c.from_le_bytes-relay.result (un16 c.args.bytes.now) c.from_le_bytes-delay.result (un16 (drop 2 c.args.bytes.now)) (search (rules, get_or-drop)) (search (rules, get_or-drop)) ∙ refused _ OutOfRange _ c.in_default.ensures)
 
 pub returns-then-same_form : goal.returns-then-same_form
 unfolding effect_read
 returns-then-same_form c =
     read_same effect_form c.args.bytes.now _ c.in-Ok.effect
-    (same c.from-le-bytes-relay.result (un16 c.args.bytes.now) c.from-le-bytes-delay.result (un16 (drop 2 c.args.bytes.now)) (search (rules, get_or-drop)) (search (rules, get_or-drop)) ∙ made _ OutOfRange c.in-Ok.effect c.in-Ok.ensures) (c.if-same-form.ensures ∙ ap (λ f. bytes_eq f c.args.bytes.now) c.form.ensures)
+    (same c.from_le_bytes-relay.result (un16 c.args.bytes.now) c.from_le_bytes-delay.result (un16 (drop 2 c.args.bytes.now)) (search (rules, get_or-drop)) (search (rules, get_or-drop)) ∙ made _ OutOfRange c.in-Ok.effect c.in-Ok.ensures) (c.if-same_form.ensures ∙ ap (λ f. bytes_eq f c.args.bytes.now) c.form.ensures)
 
 pub returns-else-same_form : goal.returns-else-same_form
 unfolding effect_read
 returns-else-same_form c =
     read_other effect_form c.args.bytes.now _ c.in-Ok.effect
-    (same c.from-le-bytes-relay.result (un16 c.args.bytes.now) c.from-le-bytes-delay.result (un16 (drop 2 c.args.bytes.now)) (search (rules, get_or-drop)) (search (rules, get_or-drop)) ∙ made _ OutOfRange c.in-Ok.effect c.in-Ok.ensures) (c.if-same-form.ensures ∙ ap (λ f. bytes_eq f c.args.bytes.now) c.form.ensures)
+    (same c.from_le_bytes-relay.result (un16 c.args.bytes.now) c.from_le_bytes-delay.result (un16 (drop 2 c.args.bytes.now)) (search (rules, get_or-drop)) (search (rules, get_or-drop)) ∙ made _ OutOfRange c.in-Ok.effect c.in-Ok.ensures) (c.if-same_form.ensures ∙ ap (λ f. bytes_eq f c.args.bytes.now) c.form.ensures)

@@ -9,6 +9,6 @@ returns g c =
     let s = c.args.self.now in
     record {
       does = ap (λ l. with_answered (model s) l) (take-set-lt s.count s.state.answered c.args.c true c.requires.1);
-      all = c.all-answered.ensures;
+      all = c.all_answered.ensures;
       sound = search rules;
     }

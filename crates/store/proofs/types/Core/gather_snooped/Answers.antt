@@ -12,13 +12,13 @@ loop-i-preserved g c =
     let i = c.loop-i.i in
     let ns = snooped_names 0 (model c.args.self.now).cells in
     let n : length (snooped_names 0 (model c.args.self.now).cells) ≡ length (model c.args.self.now).cells = names_length 0 (model c.args.self.now).cells in
-    let here : get_or ns i None ≡ c.snooped-name-v.result =
+    let here : get_or ns i None ≡ c.snooped_name-v.result =
     ap (λ l. get_or l i None) (sym c.loop-i.invariant.2) ∙ names_at 0 w.cells i
     ∙ ap (λ k. name_if (see (λ r. r.snooped) false (get_or w.cells i _)) k) (zero-add i)
-    ∙ ap (λ x. name_if (see (λ r. r.snooped) false x) i) (sym c.at.ensures) ∙ sym c.snooped-name-v.ensures in (
-      c.put-waiting.ensures.sound,
-      c.loop-i.invariant.1 ∙ put_all_more w ns i (omega (arith, n)) ∙ ap (λ v. put_all (put_waiting w v) (drop (i + 1) ns)) here ∙ ap (λ v. put_all v (drop (i + 1) ns)) (sym c.put-waiting.ensures.does),
-      ap (λ v. snooped_names 0 v.cells) c.put-waiting.ensures.does ∙ names_push w c.snooped-name-v.result ∙ c.loop-i.invariant.2,
+    ∙ ap (λ x. name_if (see (λ r. r.snooped) false x) i) (sym c.at.ensures) ∙ sym c.snooped_name-v.ensures in (
+      c.put_waiting.ensures.sound,
+      c.loop-i.invariant.1 ∙ put_all_more w ns i (omega (arith, n)) ∙ ap (λ v. put_all (put_waiting w v) (drop (i + 1) ns)) here ∙ ap (λ v. put_all v (drop (i + 1) ns)) (sym c.put_waiting.ensures.does),
+      ap (λ v. snooped_names 0 v.cells) c.put_waiting.ensures.does ∙ names_push w c.snooped_name-v.result ∙ c.loop-i.invariant.2,
     )
 
 pub returns : goal.returns

@@ -5,8 +5,8 @@ use Rattle.store.proofs.types.Core.load.Goals as goal
 pub returns-in-Some : goal.returns-in-Some
 returns-in-Some g c = record { does = search (rules, card-here); sound = c.requires }
 
-pub returns-in-default-named : goal.returns-in-default-named
-returns-in-default-named g c = record { does = search (rules, card-here); sound = c.requires }
+pub returns-in_default-named : goal.returns-in_default-named
+returns-in_default-named g c = record { does = search (rules, card-here); sound = c.requires }
 
 pub returns : goal.returns
 returns g c = record { does = search (rules, card-here, card-put); sound = search rules }

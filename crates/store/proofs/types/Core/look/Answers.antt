@@ -5,11 +5,11 @@ use Rattle.store.proofs.types.Core.look.Goals as goal
 pub returns-in-Some : goal.returns-in-Some
 returns-in-Some g c = record { does = search (rules, card-here); sound = c.requires }
 
-pub returns-in-default-place-of : goal.returns-in-default-place-of
-returns-in-default-place-of g c = record { does = search (rules, card-here); sound = c.requires }
+pub returns-in_default-place_of : goal.returns-in_default-place_of
+returns-in_default-place_of g c = record { does = search (rules, card-here); sound = c.requires }
 
-pub returns-in-default-at : goal.returns-in-default-at
-returns-in-default-at g c = record { does = search (rules, card-here); sound = c.requires }
+pub returns-in_default-at : goal.returns-in_default-at
+returns-in_default-at g c = record { does = search (rules, card-here); sound = c.requires }
 
 pub returns : goal.returns
 returns g c = record { does = search (rules, card-here, card-put); sound = search rules }

@@ -10,8 +10,8 @@ returns-in-Some g c = record { does = search (rules, card-here); sound = c.requi
 pub returns-then-serial : goal.returns-then-serial
 returns-then-serial g c = record { does = search (rules, card-here); sound = c.requires }
 
-pub returns-in-default-pop : goal.returns-in-default-pop
-returns-in-default-pop g c = record { does = search (rules, card-here, c.in-default-pop.ensures.top); sound = search (rules, c.in-default-pop.ensures) }
+pub returns-in_default-pop : goal.returns-in_default-pop
+returns-in_default-pop g c = record { does = search (rules, card-here, c.in_default-pop.ensures.top); sound = search (rules, c.in_default-pop.ensures) }
 
 pub returns : goal.returns
 unfolding born_at

@@ -13,8 +13,8 @@ returns-then-n-eq3 g c =
     let p : take s.count (set s.cards c.args.c c.heed.result) ≡ alter_card (take s.count s.cards) c.args.c (heed s.state.marked c.args.n) = card-put s.count s.cards c.args.c (heed s.state.marked c.args.n) c.heed.result c.requires.1 c.heed.ensures in
     let q = card-here s.count s.cards c.args.c c.requires.1 in
     record {
-      does = c.put-all.ensures.does ∙ ap (λ k. put_all (with_cards (model s) (take s.count (set s.cards c.args.c c.heed.result))) k.places) (sym q) ∙ obey_gather (model s) c.args.c c.args.n _ c.if-n-eq3.true p;
-      sound = c.put-all.ensures.sound;
+      does = c.put_all.ensures.does ∙ ap (λ k. put_all (with_cards (model s) (take s.count (set s.cards c.args.c c.heed.result))) k.places) (sym q) ∙ obey_gather (model s) c.args.c c.args.n _ c.if-n-eq3.true p;
+      sound = c.put_all.ensures.sound;
     }
 
 pub returns-else-n-eq3 : goal.returns-else-n-eq3

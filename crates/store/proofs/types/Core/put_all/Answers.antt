@@ -6,9 +6,9 @@ use Rattle.store.proofs.types.Core.put_all.Goals as goal
 
 pub loop-i-preserved : goal.loop-i-preserved
 loop-i-preserved g c = (
-  c.put-waiting.ensures.sound,
+  c.put_waiting.ensures.sound,
   c.loop-i.invariant.1 ∙ put_all_more (model c.loop-i.self) c.args.vs.now c.loop-i.i (omega arith)
-      ∙ ap (λ w. put_all w (drop (c.loop-i.i + 1) c.args.vs.now)) (sym c.put-waiting.ensures.does),
+      ∙ ap (λ w. put_all w (drop (c.loop-i.i + 1) c.args.vs.now)) (sym c.put_waiting.ensures.does),
 )
 
 pub returns : goal.returns

@@ -2,11 +2,11 @@ use Rattle.std.proofs.Common.{rules}
 use Rattle.store.proofs.Cards.{card-here, card-put}
 use Rattle.store.proofs.types.Core.read.Goals as goal
 
-pub returns-in-default : goal.returns-in-default
-returns-in-default g c = search (rules, card-here)
+pub returns-in_default : goal.returns-in_default
+returns-in_default g c = search (rules, card-here)
 
-pub returns-in-Some-content-at : goal.returns-in-Some-content-at
-returns-in-Some-content-at g c = search (rules, card-here)
+pub returns-in-Some-content_at : goal.returns-in-Some-content_at
+returns-in-Some-content_at g c = search (rules, card-here)
 
 pub returns-in-None : goal.returns-in-None
 returns-in-None g c = search (rules, card-here)

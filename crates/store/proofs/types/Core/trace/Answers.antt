@@ -4,7 +4,7 @@ use Rattle.store.specs.Model.{model, stack}
 use Rattle.store.proofs.Attending.{trace_none}
 use Rattle.store.proofs.types.Core.trace.Goals as goal
 
-pub returns-in-default-cell : goal.returns-in-default-cell
-returns-in-default-cell g c =
+pub returns-in_default-cell : goal.returns-in_default-cell
+returns-in_default-cell g c =
     let s = c.args.self.now in
-    record { does = sym (trace_none (model s) _ c.in-Some.k (stack c.pop.new.list) (ap phase_number c.in-Trace.is) c.in-Some.ensures.top (sym c.at-cell.ensures ∙ c.in-default-cell.is) (search rules)); sound = search rules }
+    record { does = sym (trace_none (model s) _ c.in-Some.k (stack c.pop.new.list) (ap phase_number c.in-Trace.is) c.in-Some.ensures.top (sym c.at-cell.ensures ∙ c.in_default-cell.is) (search rules)); sound = search rules }
