@@ -3,6 +3,7 @@ use crate::desk::Desk;
 use crate::said::{byte_in, pattern_in, word_in};
 use crate::told::{Told, Value};
 use crate::wire::Wire;
+use anyhow::anyhow;
 use contents::{Effect, Event};
 use machine::types::Cell;
 use refusal::Refusal;
@@ -36,7 +37,7 @@ enum Make {
 }
 
 pub(crate) fn no_memory() -> anyhow::Error {
-    "there is no memory for a store".into()
+    anyhow!("there is no memory for a store")
 }
 
 // So many times the same.

@@ -31,13 +31,14 @@ pub struct Typed {
 }
 
 impl Typed {
-    pub(crate) fn new(rt: &HostRuntime) -> Self {
-        Typed {
-            bytes: BufReader::new(rt.stdin()).bytes(),
+    pub(crate) fn new(rt: &HostRuntime) -> anyhow::Result<Self> {
+        let bytes = BufReader::new(rt.alloc(), rt.stdin())?.bytes();
+        Ok(Typed {
+            bytes,
             line: Line::new(rt.alloc()),
             number: 0,
             ended: false,
-        }
+        })
     }
 
     // Reads one line, and says whether there was one.

@@ -9,7 +9,7 @@ pub loop-k-preserved : goal.loop-k-preserved
 loop-k-preserved c =
     below_more _ _
     (λ k h. let ne : k ≢ c.loop-k.k = omega arith in rw get_or-set_other (c.loop-k.invariant k h))
-    (let lt : c.loop-k.k < length c.loop-k.cells = search rules in rw get_or-set_same c.cell-in.ensures)
+    (let lt : c.loop-k.k < length c.loop-k.cells = search rules in rw get_or-set_same c.cell_in.ensures)
 
 pub returns : goal.returns
 returns c =

@@ -7,4 +7,4 @@ unfolding form_in
 returns c =
     let a : ℕ = spot c.args.k + 4 in
     let w : (a + 16) - a ≡ 16 = omega arith in
-    c.copy-from-slice.ensures.after ∙ ap (λ m. take m (drop a c.args.bytes.now)) w
+    c.copy_from_slice.ensures.after ∙ ap (λ m. take m (drop a c.args.bytes.now)) w

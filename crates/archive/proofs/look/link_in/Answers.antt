@@ -3,4 +3,4 @@ use Rattle.archive.proofs.look.link_in.Goals as goal
 
 pub returns : goal.returns
 unfolding link_in
-returns c = c.at-two.ensures
+returns c = c.at_two.ensures

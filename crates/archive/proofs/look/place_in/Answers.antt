@@ -3,4 +3,4 @@ use Rattle.archive.proofs.look.place_in.Goals as goal
 
 pub returns : goal.returns
 unfolding place_in
-returns c = c.at-two.ensures
+returns c = c.at_two.ensures

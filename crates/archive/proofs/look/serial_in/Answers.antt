@@ -3,4 +3,4 @@ use Rattle.archive.proofs.look.serial_in.Goals as goal
 
 pub returns : goal.returns
 unfolding serial_in
-returns c = c.at-four.ensures
+returns c = c.at_four.ensures

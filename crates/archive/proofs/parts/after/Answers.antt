@@ -5,21 +5,21 @@ use Rattle.archive.specs.Layout.{after}
 use Rattle.archive.proofs.Free.{after_end, after-here, after_on, after_all, free_short}
 use Rattle.archive.proofs.parts.after.Goals as goal
 
-pub returns-in-default : goal.returns-in-default
-returns-in-default g c =
+pub returns-in_default : goal.returns-in_default
+returns-in_default g c =
     let l = (world c.args.store.now).free in
-    sym (c.loop-i.invariant ∙ after_end l c.loop-i.i c.args.k (sym c.free-cell.ensures ∙ c.in-default.is))
+    sym (c.loop-i.invariant ∙ after_end l c.loop-i.i c.args.k (sym c.free_cell.ensures ∙ c.in-default.is))
 
 pub returns-then-x-k : goal.returns-then-x-k
 returns-then-x-k g c =
     let l = (world c.args.store.now).free in
-    c.free-cell-then-x-k.ensures ∙ ap (slice_get l) (add-one c.loop-i.i)
-    ∙ sym (c.loop-i.invariant ∙ after-here l c.loop-i.i c.in-Some.x c.args.k (sym c.in-Some.is ∙ c.free-cell.ensures) c.if-x-k.true)
+    c.free_cell-then-x-k.ensures ∙ ap (slice_get l) (add-one c.loop-i.i)
+    ∙ sym (c.loop-i.invariant ∙ after-here l c.loop-i.i c.in-Some.x c.args.k (sym c.in-Some.is ∙ c.free_cell.ensures) c.if-x-k.true)
 
 pub loop-i-preserved : goal.loop-i-preserved
 loop-i-preserved g c =
     let l = (world c.args.store.now).free in
-    c.loop-i.invariant ∙ after_on l c.loop-i.i c.in-Some.x c.args.k (sym c.in-Some.is ∙ c.free-cell.ensures) c.if-x-k.false
+    c.loop-i.invariant ∙ after_on l c.loop-i.i c.in-Some.x c.args.k (sym c.in-Some.is ∙ c.free_cell.ensures) c.if-x-k.false
     ∙ ap (λ i. after (drop i l) c.args.k) (sym (add-one c.loop-i.i))
 
 pub returns : goal.returns

@@ -7,4 +7,4 @@ returns c =
     let o = c.put.new.out in
     let p = c.put-2.new.out in
     let q = c.put-3.new.out in
-    full q 28 (fill 22 6 p q (fill 20 2 o p c.put.ensures c.put-2.ensures (search rules) c.to-le-bytes.ensures) c.put-3.ensures refl refl) (search rules)
+    full q 28 (fill 22 6 p q (fill 20 2 o p c.put.ensures c.put-2.ensures (search rules) c.to_le_bytes.ensures) c.put-3.ensures refl refl) (search rules)

@@ -7,4 +7,4 @@ returns c =
     let o = c.put.new.out in
     let p = c.put-2.new.out in
     let q = c.put-3.new.out in
-    full q 28 (fill 20 8 p q (fill 4 16 o p (fill 0 4 c.args.out.now o refl c.put.ensures (search rules) c.to-le-bytes.ensures) c.put-2.ensures (search rules) refl) c.put-3.ensures (search rules) refl) (search rules)
+    full q 28 (fill 20 8 p q (fill 4 16 o p (fill 0 4 c.args.out.now o refl c.put.ensures (search rules) c.to_le_bytes.ensures) c.put-2.ensures (search rules) refl) c.put-3.ensures (search rules) refl) (search rules)

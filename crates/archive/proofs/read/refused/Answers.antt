@@ -10,13 +10,13 @@ pub returns-then-bytes-ne0 : goal.returns-then-bytes-ne0
 unfolding refusal_of
 returns-then-bytes-ne0 g c = search rules
 
-pub returns-then-not-checks-right : goal.returns-then-not-checks-right
+pub returns-then-not-checks_right : goal.returns-then-not-checks_right
 unfolding refusal_of
-returns-then-not-checks-right g c = search rules
+returns-then-not-checks_right g c = search rules
 
-pub returns-then-not-archive-right : goal.returns-then-not-archive-right
+pub returns-then-not-archive_right : goal.returns-then-not-archive_right
 unfolding refusal_of
-returns-then-not-archive-right g c = search rules
+returns-then-not-archive_right g c = search rules
 
 pub returns-then-cells-n : goal.returns-then-cells-n
 unfolding refusal_of

@@ -11,8 +11,8 @@ returns-then-k-n t c =
     follows_not (next_in bs) (free_in bs n) c.args.left c.in-Some.k (free_past bs n c.in-Some.k c.if-k-n.true)
     ∙ ap (follows (next_in bs) (free_in bs n) c.args.left) (sym c.in-Some.is)
 
-pub returns-then-serial-in-ne0 : goal.returns-then-serial-in-ne0
-returns-then-serial-in-ne0 t c =
+pub returns-then-serial_in-ne0 : goal.returns-then-serial_in-ne0
+returns-then-serial_in-ne0 t c =
     let bs = c.args.bytes.now in
     let n = c.args.n in
     follows_not (next_in bs) (free_in bs n) c.args.left c.in-Some.k (free_not bs n c.in-Some.k (λ e. c.if-serial-in-ne0.true (c.serial-in.ensures ∙ e)))
@@ -24,8 +24,8 @@ returns-in-None t c =
     let n = c.args.n in
     follows_none (next_in bs) (free_in bs n) c.args.left ∙ ap (follows (next_in bs) (free_in bs n) c.args.left) (sym c.in-None.is)
 
-pub returns-else-serial-in-ne0 : goal.returns-else-serial-in-ne0
-returns-else-serial-in-ne0 t c =
+pub returns-else-serial_in-ne0 : goal.returns-else-serial_in-ne0
+returns-else-serial_in-ne0 t c =
     let bs = c.args.bytes.now in
     let n = c.args.n in
     c.follow.ensures

@@ -3,8 +3,8 @@ use Rattle.archive.specs.Rules.{head_right}
 use Rattle.archive.proofs.Tests.{head_tells}
 use Rattle.archive.proofs.rules.archive_right.Goals as goal
 
-pub rules-right-requires : goal.rules-right-requires
-rules-right-requires g c =
+pub rules_right-requires : goal.rules_right-requires
+rules_right-requires g c =
     let bs = c.args.bytes.now in
     let t : head_right g.C.Contents.number bs ≡ true = sym (c.if-not-head-right.ensures ∙ ap (λ k. head_right k bs) c.tag.ensures) in
     let h = head_tells g.C.Contents.number bs t in

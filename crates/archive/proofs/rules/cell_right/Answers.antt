@@ -19,8 +19,8 @@ returns-then-serial-eq0 g c =
     c.rest-blank.ensures ∙ ap (λ b. cond b (is_blank (rest_in bs k)) false) (c.if-not-blank.ensures ∙ ap is_blank c.form-in-form.ensures)
     ∙ cell_blank g.C.Contents.read bs c.args.n k (sym c.serial-in-serial.ensures ∙ c.if-serial-eq0.true)
 
-pub returns-then-serial-at-four : goal.returns-then-serial-at-four
-returns-then-serial-at-four g c =
+pub returns-then-serial-at_four : goal.returns-then-serial-at_four
+returns-then-serial-at_four g c =
     let e = c.serial-in-serial.ensures in
     let f = c.at-four.ensures in
     cell_high g.C.Contents.read c.args.bytes.now c.args.n c.args.k (λ z. c.if-serial-eq0.false (e ∙ z)) (omega arith)

@@ -7,8 +7,8 @@ use Rattle.archive.proofs.rules.cells_right.Goals as goal
 pub loop-k-init : goal.loop-k-init
 loop-k-init g c = every_zero (cell_right g.C.Contents.read c.args.bytes.now c.args.n)
 
-pub returns-then-not-cell-right : goal.returns-then-not-cell-right
-returns-then-not-cell-right g c =
+pub returns-then-not-cell_right : goal.returns-then-not-cell_right
+returns-then-not-cell_right g c =
     sym (every_stop (cell_right g.C.Contents.read c.args.bytes.now c.args.n) c.loop-k.k c.args.n c.loop-k-test.true (sym c.if-not-cell-right.ensures))
 
 pub loop-k-preserved : goal.loop-k-preserved

@@ -2,7 +2,7 @@ use Rattle.std.proofs.Common.{◌≡◌, sym, ◌∙◌, arith}
 use Rattle.archive.specs.Bytes.{free_in}
 use Rattle.archive.proofs.Steps.{count_none, count_yes, count_no, free_yes, free_not}
 use Rattle.archive.proofs.rules.count_free.Goals as goal
-use Rattle.archive.proofs.rules.count_free.Goals.{then-serial-in-eq0, else-serial-in-eq0}
+use Rattle.archive.proofs.rules.count_free.Goals.{Then-serial_in-eq0, else-serial-in-eq0}
 
 pub loop-k-preserved : goal.loop-k-preserved
 loop-k-preserved c =
@@ -10,7 +10,7 @@ loop-k-preserved c =
     let n = c.args.n in
     let k = c.loop-k.k in
     elim c.if-serial-in-eq0.branch [
-      | then-serial-in-eq0 w ↦
+      | Then-serial_in-eq0 w ↦
           let z = count_yes (free_in bs n) k (free_yes bs n k c.loop-k-test.true (sym c.serial-in.ensures ∙ w.if-serial-in-eq0.true)) in
           (omega (arith, z, w.count-is), omega (arith, w.count-is))
       | else-serial-in-eq0 w ↦

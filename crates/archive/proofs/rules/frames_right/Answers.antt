@@ -37,14 +37,14 @@ returns-then-not-framed-2 c =
     let b = c.loop-b.b in
     let e : n ≡ cells_in bs = c.requires.1.0 in
     let f : true ≡ framed 0 0 (18 + 16 * cards_in bs) (chunk bs 0) = c.if-not-framed.ensures ∙ ap (λ m. framed 0 0 (18 + 16 * m) (chunk bs 0)) c.requires.1.1.0 in
-    sym (every_stop (test bs) b ((n + 17) / 18) c.loop-b-test.true (here bs n b c.part-of-count.result false e c.part-of-count.ensures c.if-not-framed-2.ensures))
+    sym (every_stop (test bs) b ((n + 17) / 18) c.loop-b-test.true (here bs n b c.part_of-count.result false e c.part_of-count.ensures c.if-not-framed-2.ensures))
     ∙ ap (λ m. every (test bs) ((m + 17) / 18)) e ∙ ap (λ t. cond t (every (test bs) ((cells_in bs + 17) / 18)) false) f
 
 pub loop-b-preserved : goal.loop-b-preserved
 loop-b-preserved c =
     let bs = c.args.bytes.now in
     let b = c.loop-b.b in
-    every_more (test bs) b c.loop-b.invariant (here bs c.args.n b c.part-of-count.result true c.requires.1.0 c.part-of-count.ensures c.if-not-framed-2.ensures)
+    every_more (test bs) b c.loop-b.invariant (here bs c.args.n b c.part_of-count.result true c.requires.1.0 c.part_of-count.ensures c.if-not-framed-2.ensures)
 
 pub returns : goal.returns
 unfolding frames_right

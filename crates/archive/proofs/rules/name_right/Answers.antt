@@ -10,4 +10,4 @@ pub returns-then-v-n : goal.returns-then-v-n
 returns-then-v-n c = name_past c.args.bytes.now c.args.n c.args.v c.if-v-eq0.false c.if-v-n.true
 
 pub returns : goal.returns
-returns c = ap (λ s. not (eqb s 0)) c.serial-in.ensures ∙ name_is c.args.bytes.now c.args.n c.args.v c.if-v-eq0.false c.if-v-n.false
+returns c = ap (λ s. not (eqb s 0)) c.serial_in.ensures ∙ name_is c.args.bytes.now c.args.n c.args.v c.if-v-eq0.false c.if-v-n.false

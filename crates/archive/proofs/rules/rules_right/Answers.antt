@@ -6,17 +6,17 @@ pub returns-then-bytes-n : goal.returns-then-bytes-n
 unfolding rules_right
 returns-then-bytes-n g c = search rules
 
-pub returns-then-not-frames-right : goal.returns-then-not-frames-right
+pub returns-then-not-frames_right : goal.returns-then-not-frames_right
 unfolding rules_right
-returns-then-not-frames-right g c = search rules
+returns-then-not-frames_right g c = search rules
 
-pub returns-then-not-cells-right : goal.returns-then-not-cells-right
+pub returns-then-not-cells_right : goal.returns-then-not-cells_right
 unfolding rules_right
-returns-then-not-cells-right g c = search rules
+returns-then-not-cells_right g c = search rules
 
-pub returns-then-not-places-right : goal.returns-then-not-places-right
+pub returns-then-not-places_right : goal.returns-then-not-places_right
 unfolding rules_right
-returns-then-not-places-right g c = search rules
+returns-then-not-places_right g c = search rules
 
 pub returns-then-share : goal.returns-then-share
 unfolding rules_right

@@ -7,7 +7,7 @@ pub returns-after-pairs : goal.returns-after-pairs
 returns-after-pairs c =
     c.pairs.invariant.1 ∙ sym (distinct_no (serial_in c.args.bytes.now) c.args.n (λ i j l m. c.pairs.invariant.0 i j l (omega arith)))
 
-pub returns-then-serial-in-x : goal.returns-then-serial-in-x
-returns-then-serial-in-x c =
+pub returns-then-serial_in-x : goal.returns-then-serial_in-x
+returns-then-serial_in-x c =
     sym (hit_yes (serial_in c.args.bytes.now) c.args.n c.pairs.i c.loop-j.j c.loop-j-test.true c.pairs-test.true
     (λ z. c.if-x-ne0.true (c.serial-in-x.ensures ∙ z)) (sym c.serial-in.ensures ∙ c.if-serial-in-x.true ∙ c.serial-in-x.ensures))

@@ -6,7 +6,7 @@ use Rattle.archive.proofs.write.blocks_of.Goals as goal
 pub returns : goal.returns
 returns g c =
     let s = c.args.store.now in
-    let e = c.next-of-next.ensures in
+    let e = c.next_of-next.ensures in
     record {
       is = search rules;
       sizes = record { most = s.tables.2; card-most = few_cards s; next-most = omega arith; rounds = omega (arith, s.numbers.2) };

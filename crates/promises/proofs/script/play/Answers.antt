@@ -7,7 +7,7 @@ use Rattle.promises.proofs.script.play.Goals as goal
 
 pub loop-i-init : goal.loop-i-init
 loop-i-init g c =
-    let m = c.in-ok-answers.ensures in
+    let m = c.in_ok-answers.ensures in
     let By = RunBy g.L.Line.sends g.L.Line.fetches g.L.Line.replies g.L.Line.collects (world c.args.store.now) c.args.line.now [] in
     (subst (λ rs. By rs (world c.args.store.now) c.args.line.now) (sym m.items) ended, m.len, m.capacity)
 
@@ -19,9 +19,9 @@ loop-i-preserved g c =
     let k = c.index-script-i.result in
     let By = RunBy g.L.Line.sends g.L.Line.fetches g.L.Line.replies g.L.Line.collects (world c.args.store.now) c.args.line.now in
     let calls : take i ks ++ (k ∷ []) ≡ take (i + 1) ks = ap (λ x. take i ks ++ (x ∷ [])) c.index-script-i.is ∙ sym (take_more ks i k c.loop-i-test.true) in
-    let r = one_act_more g.L.Line.means g.L.Line.sends g.L.Line.fetches g.L.Line.replies g.L.Line.collects law.sending law.fetching law.replying law.collecting k c.make-call-answer.result c.loop-i.invariant.0 c.make-call-answer.ensures in (
-      subst (λ qs. By qs (vec_items c.push-reserved.new.self) (world c.make-call-answer.new.store) c.make-call-answer.new.line) calls
-          (subst (λ rs. By (take i ks ++ (k ∷ [])) rs (world c.make-call-answer.new.store) c.make-call-answer.new.line) (sym c.push-reserved.ensures.items) r),
+    let r = one_act_more g.L.Line.means g.L.Line.sends g.L.Line.fetches g.L.Line.replies g.L.Line.collects law.sending law.fetching law.replying law.collecting k c.make_call-answer.result c.loop-i.invariant.0 c.make_call-answer.ensures in (
+      subst (λ qs. By qs (vec_items c.push_reserved.new.self) (world c.make_call-answer.new.store) c.make_call-answer.new.line) calls
+          (subst (λ rs. By (take i ks ++ (k ∷ [])) rs (world c.make_call-answer.new.store) c.make_call-answer.new.line) (sym c.push_reserved.ensures.items) r),
       search rules,
       search rules,
     )

@@ -9,8 +9,8 @@ use Rattle.sheet.proofs.seal.fill.Goals as goal
 pub loop-k-preserved : goal.loop-k-preserved
 loop-k-preserved c =
     let k = c.loop-k.k in
-    put_next (18 * k) _ (18 * (k + 1)) c.loop-k.body c.copy-from-slice.new.self c.loop-k.invariant
-    (c.copy-from-slice.ensures.after ∙ c.bytes.ensures ∙ ap value_bytes c.index-values-k.is) (search rules) (search rules)
+    put_next (18 * k) _ (18 * (k + 1)) c.loop-k.body c.copy_from_slice.new.self c.loop-k.invariant
+    (c.copy_from_slice.ensures.after ∙ c.bytes.ensures ∙ ap value_bytes c.index-values-k.is) (search rules) (search rules)
     ∙ one_more c.args.values.now k c.index-values-k.result c.loop-k-test.true
 
 pub returns : goal.returns

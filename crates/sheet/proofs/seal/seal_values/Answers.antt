@@ -10,6 +10,6 @@ returns c =
     let n = 18 * length c.args.values.now in
     let z : n - 0 ≡ n = omega arith in
     record {
-      is = c.write-block.ensures.is ∙ seals c.args.out.now _ c.args.number c.args.values.now c.if-values-gt18.false (ap (λ m. take m c.fill.new.body) z ∙ c.fill.ensures);
+      is = c.write_block.ensures.is ∙ seals c.args.out.now _ c.args.number c.args.values.now c.if-values-gt18.false (ap (λ m. take m c.fill.new.body) z ∙ c.fill.ensures);
       back = read_back c.args.values.now;
     }

@@ -2,8 +2,8 @@ use Rattle.std.proofs.Common.{◌≡◌, length, sym, refl, ap, ◌∙◌, arith
 use Rattle.archive.proofs.Accepted.{accepted_tells}
 use Rattle.archive.proofs.reading.Reading.check.Goals as goal
 
-pub invariant-of-result : goal.invariant-of-result
-invariant-of-result g c =
+pub invariant_of-result : goal.invariant_of-result
+invariant_of-result g c =
     let bs = c.args.bytes.now in
     let r = accepted_tells g.C.Contents.number g.C.Contents.read bs (length c.args.cells.now) (length c.args.contents.now) (sym c.refused.ensures ∙ c.in-default.is) in
     let A = r.0 in
