@@ -10,8 +10,8 @@ returns-then-left-eq0 t c =
     let bs = c.args.bytes.now in
     record { does = stack_none c.args.free.now (search rules) ∙ chain_out (next_in bs) (free_in bs c.args.n) c.args.left c.args.first c.if-left-eq0.true; len = search rules; capacity = search rules }
 
-pub returns-in-default : goal.returns-in-default
-returns-in-default t c =
+pub returns-in_default : goal.returns-in_default
+returns-in_default t c =
     let bs = c.args.bytes.now in
     record {
       does = stack_none c.args.free.now (search rules) ∙ chain_none (next_in bs) (free_in bs c.args.n) c.args.left ∙ ap (chain_from (next_in bs) (free_in bs c.args.n) c.args.left) (sym c.in-default.is);
@@ -19,8 +19,8 @@ returns-in-default t c =
       capacity = search rules;
     }
 
-pub returns-then-not-is-free : goal.returns-then-not-is-free
-returns-then-not-is-free t c =
+pub returns-then-not-is_free : goal.returns-then-not-is_free
+returns-then-not-is_free t c =
     let bs = c.args.bytes.now in
     record {
       does = stack_none c.args.free.now (search rules) ∙ chain_not (next_in bs) (free_in bs c.args.n) c.args.left c.in-Some.k (sym c.if-not-is-free.ensures)
@@ -35,9 +35,9 @@ returns t c =
     let n = c.args.n in
     let k = c.in-Some.k in
     record {
-      does = c.push.ensures.top ∙ ap (λ l. k ∷ l) (c.list-chain.ensures.does ∙ ap (chain_from (next_in bs) (free_in bs n) (c.args.left - 1)) (c.unnamed.ensures ∙ ap unname c.link-in.ensures))
+      does = c.push.ensures.top ∙ ap (λ l. k ∷ l) (c.list_chain.ensures.does ∙ ap (chain_from (next_in bs) (free_in bs n) (c.args.left - 1)) (c.unnamed.ensures ∙ ap unname c.link-in.ensures))
           ∙ chain_more (next_in bs) (free_in bs n) c.args.left k c.if-left-eq0.false (sym c.if-not-is-free.ensures)
           ∙ ap (chain_from (next_in bs) (free_in bs n) c.args.left) (sym c.in-Some.is);
-      len = omega (arith, c.push.ensures.len, c.list-chain.ensures.len);
-      capacity = c.push.ensures.capacity ∙ c.list-chain.ensures.capacity;
+      len = omega (arith, c.push.ensures.len, c.list_chain.ensures.len);
+      capacity = c.push.ensures.capacity ∙ c.list_chain.ensures.capacity;
     }

@@ -18,4 +18,4 @@ unfolding cell_in
 returns c =
     let bs = c.args.bytes.now in
     let t : eqb (serial_in bs c.args.k) 0 ≡ false = ne_eqb _ 0 (λ z. c.if-serial-eq0.false (c.serial_in-serial.ensures ∙ z)) in
-    rw t (ap (λ s. Used (newborn s c.links-of-links.result Zero)) c.serial_in-serial.ensures ∙ ap (λ l. Used (newborn (serial_in bs c.args.k) l Zero)) c.links-of-links.ensures)
+    rw t (ap (λ s. Used (newborn s c.links_of-links.result Zero)) c.serial_in-serial.ensures ∙ ap (λ l. Used (newborn (serial_in bs c.args.k) l Zero)) c.links_of-links.ensures)

@@ -8,7 +8,7 @@ use Rattle.archive.proofs.parts.after.Goals as goal
 pub returns-in_default : goal.returns-in_default
 returns-in_default g c =
     let l = (world c.args.store.now).free in
-    sym (c.loop-i.invariant ∙ after_end l c.loop-i.i c.args.k (sym c.free_cell.ensures ∙ c.in-default.is))
+    sym (c.loop-i.invariant ∙ after_end l c.loop-i.i c.args.k (sym c.free_cell.ensures ∙ c.in_default.is))
 
 pub returns-then-x-k : goal.returns-then-x-k
 returns-then-x-k g c =

@@ -9,4 +9,4 @@ returns c =
     let bs = c.args.bytes.now in
     let n = c.args.n in
     c.follow.ensures ∙ ap (λ f. follows (next_in bs) (free_in bs n) f c.unnamed.result) c.count_free.ensures.is
-    ∙ ap (follows (next_in bs) (free_in bs n) (count_free (free_in bs n) n)) (c.unnamed.ensures ∙ ap unname c.at-two.ensures)
+    ∙ ap (follows (next_in bs) (free_in bs n) (count_free (free_in bs n) n)) (c.unnamed.ensures ∙ ap unname c.at_two.ensures)

@@ -12,13 +12,13 @@ pub returns-then-not-name_right : goal.returns-then-not-name_right
 returns-then-not-name_right c =
     let bs = c.args.bytes.now in
     sym (every_stop (λ i. name_right bs c.args.n (place_in bs i)) c.loop-i.i c.args.places c.loop-i-test.true
-    (sym (c.if-not-name_right.ensures ∙ ap (name_right bs c.args.n) c.place-in.ensures)))
+    (sym (c.if-not-name_right.ensures ∙ ap (name_right bs c.args.n) c.place_in.ensures)))
 
 pub loop-i-preserved : goal.loop-i-preserved
 loop-i-preserved c =
     let bs = c.args.bytes.now in
     every_more (λ i. name_right bs c.args.n (place_in bs i)) c.loop-i.i c.loop-i.invariant
-    (sym (c.if-not-name_right.ensures ∙ ap (name_right bs c.args.n) c.place-in.ensures))
+    (sym (c.if-not-name_right.ensures ∙ ap (name_right bs c.args.n) c.place_in.ensures))
 
 pub returns : goal.returns
 returns c =
