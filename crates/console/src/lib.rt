@@ -1,5 +1,7 @@
 //! The commands of the program: a thin shell over the proved libraries. It reads words, calls the libraries and prints
 //! what they answer.
+#![tactic(auto)]
+
 mod batch;
 mod desk;
 mod help_command;

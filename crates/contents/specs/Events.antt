@@ -1,5 +1,5 @@
 -- Events: which there are, their form of sixteen bytes, and what sixteen bytes say. Assumes nothing.
-use Rattle.std.specs.Prelude.{ℕ, ◌<◌, List, [], ◌∷◌, ◌++◌, drop, replicate, Some, None, codes, decimal, Option, slice_index}
+use Rattle.std.specs.Prelude.{ℕ, ◌<◌, List, ◌∷◌, ◌++◌, drop, replicate, Some, None, codes, decimal, Option, slice_index}
 use Rattle.std.proofs.Math.Decide.{dec_lt}
 use Rattle.octets.specs.Numbers.{le16, le32, un16, un32}
 use Rattle.contents.specs.Ranges.{Within, within}

@@ -1,5 +1,7 @@
 //! Kinds of contents: what a record can say. A kind has a code and a form of sixteen bytes; events and effects are two.
 //! The store itself needs no form, only contents that can be copied.
+#![tactic(auto)]
+
 mod effect;
 mod effects;
 mod event;

@@ -8,7 +8,7 @@ use Rattle.machine.specs.declared.types.Stage.TheVariants.{Looked, Noted}
 use Rattle.machine.specs.declared.types.Update.{Update}
 use Rattle.machine.specs.World.{World, Name, used, mark, snooped, link, logged, place, card, view_at, named, read_all, links_at}
 use Rattle.machine.specs.Waiting.{heap, snooped_names}
-use Rattle.machine.specs.Cards.{look_done, note_done, store_done, noted, looked}
+use Rattle.machine.specs.Cards.{look_done, note_done, store_done, noted}
 use Rattle.machine.specs.Rounds.{trace_mark, ordering}
 use Rattle.line.specs.Lines.{Meaning}
 use Rattle.laws.specs.Steps.{Start}

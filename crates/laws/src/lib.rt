@@ -1,5 +1,7 @@
 //! What holds of every run of calls on the store, over any line that keeps the four rules: the three lasting promises, of
 //! whole runs and one call at a time, and six laws. Each function here stands for one theorem, which its contract states.
+#![tactic(auto)]
+
 ghost use Rattle.laws.specs.Promises.{Promises};
 ghost use Rattle.laws.specs.Runs.{EveryRunKept};
 ghost use Rattle.laws.specs.Calls.{EveryCallPromised};

@@ -1,6 +1,6 @@
 -- The leaky line: queues of up to four numbers a card and way, and a pattern of 32 bits that says which sendings are lost.
 -- All sendings of both ways are counted together, from 0. Cards 0 to 7. Assumes nothing.
-use Rattle.std.specs.Prelude.{ℕ, ◌+◌, ◌/◌, ◌%◌, ◌^◌, Bool, cond, ◌||◌, List, [], ◌∷◌, ◌++◌, map, length, Some, None, Option, ◌==◌, nat_lt, slice_index_or, slice_set}
+use Rattle.std.specs.Prelude.{ℕ, ◌+◌, ◌/◌, ◌%◌, ◌^◌, Bool, cond, List, [], ◌∷◌, ◌++◌, map, length, Some, None, Option, ◌==◌, nat_lt, slice_index_or, slice_set}
 use Rattle.line.specs.Lines.{Meaning}
 use Rattle.line.specs.declared.queue.Queue.{Queue}
 use Rattle.line.specs.declared.queue.Queue.TheVariants.{Empty, One, Two, Three, Four}

@@ -1,7 +1,7 @@
 -- A row with one entry changed keeps the rules, whatever an entry is. Assumes nothing.
 use Rattle.std.specs.Prelude.{◌≡◌, ℕ, zero, suc, ◌<◌, Bool, true, false, cond, ◌⊎◌, List, [], ◌∷◌, ◌++◌, map, length, set, Some, None, Option, nat_lt, slice_index_or, slice_set, refl}
 use Rattle.std.proofs.Common.{sym, ap, subst, ◌∙◌, inl, inr, ⊎_elim}
-use Rattle.line.specs.Lines.{Among, NoGain, Delivered, Put, Taken}
+use Rattle.line.specs.Lines.{Among, Delivered, Put, Taken}
 use Rattle.std.proofs.lemmas.List.{map-set, get_or-map}
 use Rattle.line.specs.Leaky.{held, queue, joins, front, later}
 use Rattle.line.specs.declared.queue.Queue.{Queue}

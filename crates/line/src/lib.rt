@@ -1,4 +1,6 @@
 //! The line between the main processor and the cards: what any line means and may do, the direct line and the leaky line.
+#![tactic(auto)]
+
 mod direct;
 mod directs;
 mod leaky;

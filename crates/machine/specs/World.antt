@@ -1,15 +1,13 @@
 -- The store as the specs see it: what it holds, what is read of it, and the few ways in which it changes.
 -- Links and places are lists of any length; a name past the table, or of a free cell, is read as empty.
-use Rattle.std.specs.Prelude.{◌≡◌, ℕ, zero, suc, ◌+◌, ◌-◌, ◌*◌, Bool, true, false, cond, not, ◌&&◌, ◌||◌, List, [], ◌∷◌, map, length, get_or, set, replicate, is_some, Some, None, Option, slice_index_or, slice_set}
+use Rattle.std.specs.Prelude.{ℕ, zero, suc, ◌+◌, ◌-◌, ◌*◌, Bool, true, false, List, [], ◌∷◌, get_or, replicate, is_some, Some, None, Option, slice_index_or, slice_set}
 use Rattle.machine.specs.declared.types.Colour.{Colour}
 use Rattle.machine.specs.declared.types.Colour.TheVariants.{Zero, One}
 use Rattle.machine.specs.declared.types.Phase.{Phase}
-use Rattle.machine.specs.declared.types.Phase.TheVariants.{Rest, Alert, Log, Gather, Trace, Ease, Sweep, Settle}
+use Rattle.machine.specs.declared.types.Phase.TheVariants.{Rest}
 use Rattle.machine.specs.declared.types.Record.{Record}
 use Rattle.machine.specs.declared.types.Cell.{Cell}
 use Rattle.machine.specs.declared.types.Cell.TheVariants.{Free, Used}
-use Rattle.machine.specs.declared.types.Stage.{Stage}
-use Rattle.machine.specs.declared.types.Stage.TheVariants.{Looked, Noted}
 use Rattle.machine.specs.declared.types.Update.{Update}
 use Rattle.machine.specs.declared.types.Card.{Card}
 

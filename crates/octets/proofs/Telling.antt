@@ -1,10 +1,10 @@
 -- Bytes that differ in one place have different checks: rotating and adding a byte lose nothing. Assumes nothing.
-use Rattle.std.proofs.Common.{◌≡◌, ℕ, zero, suc, ◌+◌, ◌*◌, ◌/◌, ◌%◌, ◌^◌, ◌<◌, List, [], ◌∷◌, length, get_or, fold, sym, refl, ap, ◌∙◌, arith}
+use Rattle.std.proofs.Common.{◌≡◌, ℕ, zero, suc, ◌+◌, ◌*◌, ◌/◌, ◌%◌, ◌^◌, ◌<◌, List, [], ◌∷◌, length, get_or, fold, sym, ap, ◌∙◌, arith}
 use lib.Bits.{bit_or}
 use Rattle.std.proofs.lemmas.Nat.{or_shifted}
 use Rattle.std.proofs.lemmas.List.{ext_get_or}
 use Rattle.octets.specs.Numbers.{Bytes}
-use Rattle.octets.specs.Check.{rotated, mixed, check_of, DifferOnce, OneByteTells}
+use Rattle.octets.specs.Check.{rotated, mixed, check_of, OneByteTells}
 
 -- rotating puts the low 27 bits above the high five
 rotated_is : (h : ℕ) → h < 2 ^ 32 → rotated h ≡ (h % 2 ^ 27) * 2 ^ 5 + h / 2 ^ 27

@@ -1,5 +1,5 @@
 -- The check of a block's bytes, and what it is good for. Assumes nothing.
-use Rattle.std.specs.Prelude.{◌≡◌, ℕ, ◌+◌, ◌*◌, ◌/◌, ◌%◌, ◌^◌, ◌<◌, List, [], ◌∷◌, length, fold, ◌≢◌, bit_or, slice_index, slice_index_or}
+use Rattle.std.specs.Prelude.{◌≡◌, ℕ, ◌+◌, ◌*◌, ◌/◌, ◌%◌, ◌^◌, ◌<◌, List, length, fold, ◌≢◌, bit_or, slice_index, slice_index_or}
 use Rattle.octets.specs.Numbers.{Bytes}
 
 -- 32 bits rotated left by five places

@@ -1,22 +1,20 @@
 -- From the exact acts to the steps and runs that the promises speak of, by the four laws of a line.
-use Rattle.std.proofs.Common.{◌≡◌, ℕ, ◌≤◌, List, [], ◌∷◌, ◌++◌, Some, None, Ok, Err, Option, Result, sym, refl, ap, ◌∙◌, subst}
+use Rattle.std.proofs.Common.{◌≡◌, ℕ, List, [], ◌∷◌, ◌++◌, Some, None, Ok, Err, Option, Result, ap, ◌∙◌, subst}
 use Rattle.refusal.specs.declared.kinds.Refusal.{Refusal}
 use Rattle.machine.specs.declared.types.Call.{Call}
 use Rattle.machine.specs.declared.types.Call.TheVariants.{New, Load, Copy, Drop, Read, Look, Note, Store, Open, Knock, Attend, Hear, Trace, Sweep, Settle}
 use Rattle.machine.specs.declared.types.Answer.{Answer}
 use Rattle.machine.specs.World.{World}
-use Rattle.machine.specs.Acts.{act, answer}
-use Rattle.machine.specs.Rounds.{knock_call, attend_call, hear_call}
+use Rattle.machine.specs.Acts.{answer}
+use Rattle.machine.specs.Rounds.{attend_call}
 use Rattle.line.specs.Lines.{Meaning, Among, Sent, Fetched, Replied, Collected}
 use Rattle.store.specs.Over.{Said, Knocked, KnocksBy, AttendsBy, HearsBy}
 use Rattle.store.specs.Over as over
 use Rattle.laws.specs.Steps.{Sends, Replies, Attends, Step, Run, done, then, AtRest, Low, Start}
 use Rattle.laws.specs.Steps as steps
-use Rattle.laws.specs.Runs.{Ran}
-use Rattle.laws.specs.Endless.{image}
 use Rattle.laws.proofs.WholeRun.{ran}
 use Rattle.laws.proofs.OneCall.{promised, reached-start, mirrored-start}
-use Rattle.promises.specs.Acting.{Aside, Told, ActBy, RunBy, ended, acts}
+use Rattle.promises.specs.Acting.{Aside, ActBy, RunBy, ended, acts}
 use Rattle.promises.specs.Playing.{Silent, PlayedBy, CalledBy, Begins}
 
 module _ {L : Type 0} (means : L → Meaning) (sends : L → ℕ → ℕ → L → Type 0) (fetches : L → ℕ → Option ℕ → L → Type 0) (replies : L → ℕ → ℕ → L → Type 0) (collects : L → ℕ → Option ℕ → L → Type 0)

@@ -1,4 +1,6 @@
 //! The calls that carry the promises: `play`, which plays a script, and `Panel`, a store and its line used by nothing else.
+#![tactic(auto)]
+
 mod script;
 mod unit;
 mod units;

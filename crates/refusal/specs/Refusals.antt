@@ -1,5 +1,5 @@
 -- The number and the reason of each refusal. Assumes nothing.
-use Rattle.std.specs.Prelude.{ℕ, List, [], ◌∷◌, ◌++◌, codes, decimal}
+use Rattle.std.specs.Prelude.{ℕ, List, ◌++◌, codes, decimal}
 use Rattle.refusal.specs.declared.kinds.Refusal.{Refusal}
 use Rattle.refusal.specs.declared.kinds.Refusal.TheVariants.{NoCard, NoPlace, NoLink, UpdateInHand, NoUpdate, Blank, WrongPhase, Exhausted, NoCell, BadLength, BadCheck, BadArchive, OutOfRange}
 

@@ -1,5 +1,7 @@
 //! The refusals of the whole system: one enum, one number each, one reason in words each.
 //! Every crate that refuses anything answers one of these.
+#![tactic(auto)]
+
 mod kinds;
 
 ghost use Rattle.std.specs.Prelude.{◌≡◌, Some};

@@ -1,18 +1,18 @@
 -- Values in a block: what eighteen bytes say, and that each value is read back. Assumes nothing.
-use Rattle.std.proofs.Common.{◌≡◌, ℕ, zero, suc, ◌+◌, ◌*◌, ◌<◌, ◌≤◌, Bool, true, false, cond, eqb, ltb, leb, List, [], ◌∷◌, ◌++◌, length, get_or, take, drop, Some, None, Option, sym, refl, ap, ◌∙◌, subst, arith}
+use Rattle.std.proofs.Common.{◌≡◌, ℕ, zero, suc, ◌+◌, ◌*◌, ◌<◌, ◌≤◌, true, false, eqb, ltb, leb, List, [], ◌∷◌, ◌++◌, length, get_or, take, drop, Some, None, Option, sym, refl, ap, ◌∙◌, arith}
 use Rattle.std.specs.List.{flat_map}
 use Rattle.std.proofs.lemmas.List.{append_assoc, length-append, take_at, drop_at, drop-drop, take_more, flat_map_more}
-use Rattle.std.proofs.lemmas.Bool.{eq-eqb, ne_eqb, lt-ltb, le-ltb}
-use Rattle.octets.specs.Numbers.{le16, un16}
+use Rattle.std.proofs.lemmas.Bool.{eq-eqb, ne_eqb, le-ltb}
+use Rattle.octets.specs.Numbers.{un16}
 use Rattle.octets.specs.Block.{writing}
-use Rattle.contents.specs.Events.{event_code, event_form, event_read}
-use Rattle.contents.specs.Effects.{effect_code, effect_form, effect_read}
+use Rattle.contents.specs.Events.{event_code, event_read}
+use Rattle.contents.specs.Effects.{effect_code, effect_read}
 use Rattle.contents.specs.EventLaws as events
 use Rattle.contents.specs.EffectLaws as effects
 use Rattle.contents.specs.declared.event.Event.{Event}
 use Rattle.contents.specs.declared.effect.Effect.{Effect}
 use Rattle.sheet.specs.Words.{digits_after, number_in}
-use Rattle.sheet.specs.Values.{value_bytes, happened, does, value_in, sealing, value_at, ReadBack}
+use Rattle.sheet.specs.Values.{value_bytes, happened, does, value_in, sealing, ReadBack}
 use Rattle.sheet.specs.declared.value.Value.{Value}
 use Rattle.sheet.specs.declared.value.Value.TheVariants.{Happened, Does}
 

@@ -1,5 +1,5 @@
 -- What the words of a commissioning sheet say. Assumes nothing.
-use Rattle.std.specs.Prelude.{ℕ, ◌+◌, ◌-◌, ◌*◌, min, Bool, true, false, cond, ◌&&◌, List, [], ◌∷◌, Some, None, Ok, Err, Option, Result, nat_le}
+use Rattle.std.specs.Prelude.{ℕ, ◌+◌, ◌-◌, ◌*◌, min, Bool, cond, ◌&&◌, List, [], ◌∷◌, Some, None, Ok, Err, Option, Result, nat_le}
 use Rattle.refusal.specs.declared.kinds.Refusal.TheVariants.{OutOfRange}
 use Rattle.contents.specs.Kinds.{kind_number, kind_called}
 use Rattle.contents.specs.Events.{event_of}

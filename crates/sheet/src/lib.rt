@@ -1,4 +1,6 @@
 //! The commissioning sheet: what its words say, and a block that seals the values of a sheet.
+#![tactic(auto)]
+
 mod fault;
 mod faults;
 mod seal;

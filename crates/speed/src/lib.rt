@@ -1,4 +1,6 @@
 //! `panel bench`: how long calls take on this machine. The figures are the best of many tries, in nanoseconds.
+#![tactic(auto)]
+
 mod work;
 
 use anyhow::anyhow;

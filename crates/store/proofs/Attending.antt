@@ -1,7 +1,6 @@
 -- What a card makes of an order, in the steps of the code.
-use Rattle.std.proofs.Common.{◌≡◌, ℕ, ◌+◌, ◌%◌, ◌<◌, ◌≤◌, Bool, true, false, cond, eqb, leb, List, [], ◌∷◌, length, get_or, is_some, Some, None, Ok, Err, Option, Result, sym, refl, ap, ◌∙◌, subst, arith, eq-eqb, ne_eqb, le-leb}
+use Rattle.std.proofs.Common.{◌≡◌, ℕ, ◌+◌, ◌%◌, ◌<◌, ◌≤◌, true, false, eqb, leb, List, ◌∷◌, length, Some, None, Ok, Option, sym, refl, ap, ◌∙◌, subst, arith, eq-eqb, ne_eqb, le-leb}
 use borrow.Author.Tests.{lt-leb}
-use Rattle.refusal.specs.declared.kinds.Refusal.{Refusal}
 use Rattle.machine.specs.declared.types.Cell.TheVariants.{Free}
 use Rattle.machine.specs.declared.types.Card.{Card}
 use Rattle.machine.specs.World.{World, at, card, alter_card, with_cards}

@@ -1,12 +1,12 @@
 -- Cells changed in place, and how many of them are spare.
 use Rattle.std.proofs.Common.{◌≡◌, ℕ, zero, suc, ◌+◌, ◌<◌, ◌≤◌, Bool, true, false, cond, not, ◌||◌, List, [], ◌∷◌, map, length, get_or, set, sym, refl, ap, ◌∙◌, arith}
 use lib.Seq.{set-get_or}
-use Rattle.std.proofs.lemmas.List.{get_or_past, set_past}
+use Rattle.std.proofs.lemmas.List.{get_or_past}
 use Rattle.machine.specs.declared.types.Colour.{Colour}
 use Rattle.machine.specs.declared.types.Record.{Record}
 use Rattle.machine.specs.declared.types.Cell.{Cell}
 use Rattle.machine.specs.declared.types.Cell.TheVariants.{Free, Used}
-use Rattle.machine.specs.World.{alter, alter_at, free_at, born_at, alter_all, greyen, blacken, same_colour}
+use Rattle.machine.specs.World.{alter, alter_at, alter_all, same_colour}
 use Rattle.machine.specs.Waiting.{pale}
 use Rattle.store.specs.Model.{spare, spares}
 

@@ -1,11 +1,8 @@
-use Rattle.std.specs.Prelude.{◌≡◌, ℕ, zero, suc, ◌+◌, ◌-◌, ◌*◌, ◌<◌, ◌≤◌, Bool, true, false, cond, List, [], ◌∷◌, reverse, length, get_or, take, set, vec_items, vec_len, vec_capacity, Vec}
-use Rattle.machine.specs.declared.types.Colour.{Colour}
+use Rattle.std.specs.Prelude.{◌≡◌, ℕ, ◌+◌, ◌*◌, ◌≤◌, cond, List, [], ◌∷◌, reverse, length, take, vec_items, vec_len, vec_capacity, Vec}
 use Rattle.machine.specs.declared.types.Phase.{Phase}
 use Rattle.machine.specs.declared.types.Phase.TheVariants.{Rest, Alert, Log, Gather, Trace, Ease, Sweep, Settle}
-use Rattle.machine.specs.declared.types.Record.{Record}
 use Rattle.machine.specs.declared.types.Cell.{Cell}
 use Rattle.machine.specs.declared.types.Cell.TheVariants.{Free, Used}
-use Rattle.machine.specs.declared.types.Card.{Card}
 use Rattle.machine.specs.World.{World}
 use Rattle.store.specs.declared.types.Core.{Core}
 

@@ -1,5 +1,5 @@
 -- Which numbers and tables make a store.
-use Rattle.std.specs.Prelude.{◌≡◌, ℕ, ◌<◌, ◌≤◌, Bool, true, false, not, ◌&&◌, ◌||◌, length, vec_len, vec_capacity, ◌==◌, nat_lt}
+use Rattle.std.specs.Prelude.{◌≡◌, ℕ, ◌≤◌, Bool, false, not, ◌||◌, length, vec_len, vec_capacity, ◌==◌, nat_lt}
 use Rattle.store.specs.declared.draft.Draft.{Draft}
 
 -- tables not of one length, empty or above 4,096

@@ -1,5 +1,5 @@
 -- A store that is put together again from its parts: what is asked of them, and what it is then.
-use Rattle.std.specs.Prelude.{◌≡◌, ℕ, ◌*◌, ◌≤◌, false, [], length, take, replicate, vec_len, vec_capacity}
+use Rattle.std.specs.Prelude.{◌≡◌, ◌*◌, ◌≤◌, false, [], length, take, replicate, vec_len, vec_capacity}
 use Rattle.machine.specs.declared.types.Colour.TheVariants.{Zero}
 use Rattle.machine.specs.declared.types.Phase.TheVariants.{Rest}
 use Rattle.machine.specs.World.{World}

@@ -14,7 +14,7 @@ pub returns-in_default : goal.returns-in_default
 returns-in_default t c =
     let bs = c.args.bytes.now in
     record {
-      does = stack_none c.args.free.now (search rules) ∙ chain_none (next_in bs) (free_in bs c.args.n) c.args.left ∙ ap (chain_from (next_in bs) (free_in bs c.args.n) c.args.left) (sym c.in-default.is);
+      does = stack_none c.args.free.now (search rules) ∙ chain_none (next_in bs) (free_in bs c.args.n) c.args.left ∙ ap (chain_from (next_in bs) (free_in bs c.args.n) c.args.left) (sym c.in_default.is);
       len = search rules;
       capacity = search rules;
     }
@@ -23,7 +23,7 @@ pub returns-then-not-is_free : goal.returns-then-not-is_free
 returns-then-not-is_free t c =
     let bs = c.args.bytes.now in
     record {
-      does = stack_none c.args.free.now (search rules) ∙ chain_not (next_in bs) (free_in bs c.args.n) c.args.left c.in-Some.k (sym c.if-not-is-free.ensures)
+      does = stack_none c.args.free.now (search rules) ∙ chain_not (next_in bs) (free_in bs c.args.n) c.args.left c.in-Some.k (sym c.if-not-is_free.ensures)
           ∙ ap (chain_from (next_in bs) (free_in bs c.args.n) c.args.left) (sym c.in-Some.is);
       len = search rules;
       capacity = search rules;
@@ -35,8 +35,8 @@ returns t c =
     let n = c.args.n in
     let k = c.in-Some.k in
     record {
-      does = c.push.ensures.top ∙ ap (λ l. k ∷ l) (c.list_chain.ensures.does ∙ ap (chain_from (next_in bs) (free_in bs n) (c.args.left - 1)) (c.unnamed.ensures ∙ ap unname c.link-in.ensures))
-          ∙ chain_more (next_in bs) (free_in bs n) c.args.left k c.if-left-eq0.false (sym c.if-not-is-free.ensures)
+      does = c.push.ensures.top ∙ ap (λ l. k ∷ l) (c.list_chain.ensures.does ∙ ap (chain_from (next_in bs) (free_in bs n) (c.args.left - 1)) (c.unnamed.ensures ∙ ap unname c.link_in.ensures))
+          ∙ chain_more (next_in bs) (free_in bs n) c.args.left k c.if-left-eq0.false (sym c.if-not-is_free.ensures)
           ∙ ap (chain_from (next_in bs) (free_in bs n) c.args.left) (sym c.in-Some.is);
       len = omega (arith, c.push.ensures.len, c.list_chain.ensures.len);
       capacity = c.push.ensures.capacity ∙ c.list_chain.ensures.capacity;

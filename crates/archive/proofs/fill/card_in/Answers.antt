@@ -7,4 +7,4 @@ pub returns : goal.returns
 unfolding card_in
 returns c =
     let bs = c.args.bytes.now in
-    c.card_with.ensures ∙ ap (λ p. card_with p c.at_four-rounds.result) c.places-of.ensures ∙ ap (card_with (places_of bs c.args.c)) c.at_four-rounds.ensures
+    c.card_with.ensures ∙ ap (λ p. card_with p c.at_four-rounds.result) c.places_of.ensures ∙ ap (card_with (places_of bs c.args.c)) c.at_four-rounds.ensures

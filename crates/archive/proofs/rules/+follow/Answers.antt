@@ -15,7 +15,7 @@ pub returns-then-serial_in-ne0 : goal.returns-then-serial_in-ne0
 returns-then-serial_in-ne0 t c =
     let bs = c.args.bytes.now in
     let n = c.args.n in
-    follows_not (next_in bs) (free_in bs n) c.args.left c.in-Some.k (free_not bs n c.in-Some.k (λ e. c.if-serial_in-ne0.true (c.serial-in.ensures ∙ e)))
+    follows_not (next_in bs) (free_in bs n) c.args.left c.in-Some.k (free_not bs n c.in-Some.k (λ e. c.if-serial_in-ne0.true (c.serial_in.ensures ∙ e)))
     ∙ ap (follows (next_in bs) (free_in bs n) c.args.left) (sym c.in-Some.is)
 
 pub returns-in-None : goal.returns-in-None
@@ -30,7 +30,7 @@ returns-else-serial_in-ne0 t c =
     let n = c.args.n in
     c.follow.ensures
     ∙ ap (follows (next_in bs) (free_in bs n) (c.args.left - 1)) (c.unnamed.ensures ∙ ap unname c.link_in.ensures)
-    ∙ follows_more (next_in bs) (free_in bs n) c.args.left c.in-Some.k c.if-left-eq0.false (free_yes bs n c.in-Some.k c.if-k-n.false (sym c.serial-in.ensures ∙ c.if-serial_in-ne0.false))
+    ∙ follows_more (next_in bs) (free_in bs n) c.args.left c.in-Some.k c.if-left-eq0.false (free_yes bs n c.in-Some.k c.if-k-n.false (sym c.serial_in.ensures ∙ c.if-serial_in-ne0.false))
     ∙ ap (follows (next_in bs) (free_in bs n) c.args.left) (sym c.in-Some.is)
 
 pub returns-then-left-eq0 : goal.returns-then-left-eq0

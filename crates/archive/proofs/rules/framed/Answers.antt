@@ -13,7 +13,7 @@ pub returns-then-from_le_bytes-count : goal.returns-then-from_le_bytes-count
 returns-then-from_le_bytes-count c =
     let bs = c.args.block.now in
     let two : c.from_le_bytes-2.result ≡ un16 (drop 2 bs) = search (rules, get_or-drop) in
-    frame_count c.args.number c.args.count c.args.needs bs (sym c.from_le_bytes.ensures ∙ c.if-from_le_bytes-number.false) (λ e. c.if-from-le-bytes-count.true (two ∙ e))
+    frame_count c.args.number c.args.count c.args.needs bs (sym c.from_le_bytes.ensures ∙ c.if-from_le_bytes-number.false) (λ e. c.if-from_le_bytes-count.true (two ∙ e))
 
 pub returns : goal.returns
 returns c =
@@ -21,4 +21,4 @@ returns c =
     let two : c.from_le_bytes-2.result ≡ un16 (drop 2 bs) = search (rules, get_or-drop) in
     let all : take (length bs - 4) (drop 4 bs) ≡ drop 4 bs = take_rest bs 4 in
     c.blank.ensures ∙ ap (λ t. is_blank (take (504 - c.args.needs) (drop c.args.needs t))) all
-    ∙ frame_is c.args.number c.args.count c.args.needs bs (sym c.from_le_bytes.ensures ∙ c.if-from_le_bytes-number.false) (sym two ∙ c.if-from-le-bytes-count.false)
+    ∙ frame_is c.args.number c.args.count c.args.needs bs (sym c.from_le_bytes.ensures ∙ c.if-from_le_bytes-number.false) (sym two ∙ c.if-from_le_bytes-count.false)

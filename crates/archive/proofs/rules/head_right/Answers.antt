@@ -7,4 +7,4 @@ pub returns : goal.returns
 unfolding head_right
 returns c =
     c.limits.ensures
-    ∙ limits-same _ _ _ _ c.args.kind _ _ _ _ _ _ _ _ c.at_two.ensures c.at_two-2.ensures c.at-two-3.ensures c.at-two-4.ensures c.at-four.ensures c.at-four-2.ensures
+    ∙ limits-same _ _ _ _ c.args.kind _ _ _ _ _ _ _ _ c.at_two.ensures c.at_two-2.ensures c.at_two-3.ensures c.at_two-4.ensures c.at_four.ensures c.at_four-2.ensures

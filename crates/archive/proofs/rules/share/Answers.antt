@@ -10,4 +10,4 @@ returns-after-pairs c =
 pub returns-then-serial_in-x : goal.returns-then-serial_in-x
 returns-then-serial_in-x c =
     sym (hit_yes (serial_in c.args.bytes.now) c.args.n c.pairs.i c.loop-j.j c.loop-j-test.true c.pairs-test.true
-    (λ z. c.if-x-ne0.true (c.serial_in-x.ensures ∙ z)) (sym c.serial-in.ensures ∙ c.if-serial-in-x.true ∙ c.serial_in-x.ensures))
+    (λ z. c.if-x-ne0.true (c.serial_in-x.ensures ∙ z)) (sym c.serial_in.ensures ∙ c.if-serial_in-x.true ∙ c.serial_in-x.ensures))

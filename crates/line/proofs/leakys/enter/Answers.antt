@@ -1,4 +1,4 @@
-use Rattle.std.proofs.Common.{◌≡◌, false, cond, map, set, sym, ap, ◌∙◌}
+use Rattle.std.proofs.Common.{cond, map, set, sym, ap, ◌∙◌}
 use Rattle.line.specs.Leaky.{held, queue, joins}
 use Rattle.line.specs.Rows.{way_set, queue_is}
 use Rattle.line.proofs.leakys.enter.Goals as goal

@@ -1,5 +1,5 @@
-use Rattle.std.proofs.Common.{◌≡◌, ap, ◌∙◌}
-use Rattle.line.specs.Leaky.{held, queue, front, later}
+use Rattle.std.proofs.Common.{ap, ◌∙◌}
+use Rattle.line.specs.Leaky.{front, later}
 use Rattle.line.specs.Rows.{way_set, queue_is}
 use Rattle.line.proofs.leakys.leave.Goals as goal
 

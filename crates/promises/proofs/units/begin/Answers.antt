@@ -1,4 +1,4 @@
-use Rattle.std.proofs.Common.{sym, subst, arith, rules}
+use Rattle.std.proofs.Common.{sym, subst, rules}
 use Rattle.laws.specs.Steps.{AtRest}
 use Rattle.laws.proofs.WholeRun.{stand}
 use Rattle.promises.proofs.units.begin.Goals as goal

@@ -1,4 +1,4 @@
-use Rattle.std.proofs.Common.{◌≡◌, ℕ, ◌-◌, ◌*◌, length, take, ap, ◌∙◌, arith, rules}
+use Rattle.std.proofs.Common.{◌≡◌, ◌-◌, ◌*◌, length, take, ap, ◌∙◌, arith, rules}
 use Rattle.sheet.proofs.Sealing.{seals, read_back}
 use Rattle.sheet.proofs.seal.seal_values.Goals as goal
 

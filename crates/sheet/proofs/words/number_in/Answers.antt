@@ -1,4 +1,4 @@
-use Rattle.std.proofs.Common.{◌∙◌, rules}
+use Rattle.std.proofs.Common.{rules}
 use Rattle.sheet.proofs.Sealing.{number_none, number-some}
 use Rattle.sheet.proofs.words.number_in.Goals as goal
 

@@ -1,7 +1,7 @@
-use Rattle.std.proofs.Common.{◌≡◌, ℕ, ◌+◌, ◌<◌, ◌≤◌, false, [], length, take, set, replicate, sym, ap, ◌∙◌, arith, rules}
+use Rattle.std.proofs.Common.{◌≡◌, ◌+◌, ◌≤◌, false, [], length, take, set, replicate, ap, ◌∙◌, rules}
 use lib.ListN.{length-replicate}
 use Rattle.machine.specs.declared.types.Cell.TheVariants.{Free, Used}
-use Rattle.machine.specs.World.{born_at, fresh_card}
+use Rattle.machine.specs.World.{born_at}
 use Rattle.store.specs.Model.{stack, spares}
 use Rattle.store.proofs.Made.{made-spares, take_same}
 use Rattle.store.proofs.Stacks.{stack_none}

@@ -1,4 +1,4 @@
-use Rattle.std.proofs.Common.{◌≡◌, ℕ, ◌+◌, ◌-◌, ◌≤◌, vec_len, vec_capacity}
+use Rattle.std.proofs.Common.{◌≡◌, ◌-◌, ◌≤◌, vec_len, vec_capacity}
 use Rattle.machine.specs.World.{count_up}
 use Rattle.store.specs.Model.{stack}
 use Rattle.store.proofs.making.fill_free.Given as goal

@@ -1,4 +1,4 @@
-use Rattle.std.proofs.Common.{refl, arith, rules}
+use Rattle.std.proofs.Common.{arith, rules}
 use Rattle.store.proofs.Cells.{alter-used, kept_free, kept-spares, alter_past, spares-low}
 use Rattle.store.proofs.parts.blacken.Goals as goal
 

@@ -1,4 +1,4 @@
-use Rattle.std.proofs.Common.{arith, rules}
+use Rattle.std.proofs.Common.{rules}
 use Rattle.store.proofs.Stacks.{stack_past, stack_at}
 use Rattle.store.proofs.views.from_top.Goals as goal
 

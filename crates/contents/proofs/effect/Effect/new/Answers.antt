@@ -1,6 +1,5 @@
 use Rattle.std.proofs.Common.{arith, rules}
 use Rattle.refusal.specs.declared.kinds.Refusal.TheVariants.{OutOfRange}
-use Rattle.contents.specs.Effects.{effect_of}
 use Rattle.contents.specs.Readings.{refuses, makes}
 use Rattle.contents.specs.EffectLaws.{effect_some, effect_none}
 use Rattle.contents.proofs.effect.Effect.new.Goals as goal

@@ -1,7 +1,7 @@
-use Rattle.std.proofs.Common.{◌≡◌, ℕ, get_or, drop, Some, None, sym, ap, ◌∙◌, rules}
+use Rattle.std.proofs.Common.{◌≡◌, ℕ, drop, ap, ◌∙◌, rules}
 use Rattle.std.specs.Str.{bytes_eq}
 use Rattle.std.proofs.lemmas.List.{get_or-drop}
-use Rattle.octets.specs.Numbers.{un16, un32}
+use Rattle.octets.specs.Numbers.{un16}
 use Rattle.refusal.specs.declared.kinds.Refusal.TheVariants.{OutOfRange}
 use Rattle.contents.specs.Effects.{effect_of, effect_form, effect_read}
 use Rattle.contents.specs.Readings.{made, refused, read_none, read_same, read_other}

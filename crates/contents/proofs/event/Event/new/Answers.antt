@@ -1,4 +1,4 @@
-use Rattle.std.proofs.Common.{◌≡◌, ℕ, sym, ◌∙◌, arith, rules}
+use Rattle.std.proofs.Common.{◌≡◌, ℕ, sym, arith, rules}
 use Rattle.refusal.specs.declared.kinds.Refusal.TheVariants.{OutOfRange}
 use Rattle.contents.specs.Readings.{refuses, makes}
 use Rattle.contents.specs.EventLaws.{event_some, event_none}

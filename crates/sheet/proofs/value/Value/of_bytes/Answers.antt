@@ -1,6 +1,6 @@
-use Rattle.std.proofs.Common.{◌≡◌, ℕ, true, false, drop, Some, None, sym, ap, ◌∙◌, rules}
-use Rattle.contents.specs.Events.{event_code, event_read}
-use Rattle.contents.specs.Effects.{effect_code, effect_read}
+use Rattle.std.proofs.Common.{Some, None, sym, ap, ◌∙◌}
+use Rattle.contents.specs.Events.{event_read}
+use Rattle.contents.specs.Effects.{effect_read}
 use Rattle.sheet.proofs.Sealing.{value_event, value_effect, value_none}
 use Rattle.sheet.proofs.value.Value.of_bytes.Goals as goal
 

@@ -1,4 +1,4 @@
-use Rattle.std.proofs.Common.{◌≡◌, false, length, take, sym, ap, ◌∙◌, arith, length-take-le, get_or-take, rules}
+use Rattle.std.proofs.Common.{◌≡◌, false, length, take, sym, ap, ◌∙◌, arith, length-take-le, get_or-take}
 use Rattle.machine.specs.Rounds.{all_of}
 use Rattle.store.proofs.Gathering.{all_none, all_more, not_all}
 use Rattle.store.proofs.types.Core.all_answered.Goals as goal

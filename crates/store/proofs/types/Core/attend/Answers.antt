@@ -1,4 +1,4 @@
-use Rattle.std.proofs.Common.{◌≡◌, ◌+◌, ◌<◌, ◌≤◌, length, get_or, take, Some, None, refl, ap, ◌∙◌, arith, rules}
+use Rattle.std.proofs.Common.{◌≡◌, ◌<◌, length, get_or, take, None, refl, ap, ◌∙◌, arith, rules}
 use Rattle.machine.specs.World.{card, blank_card}
 use Rattle.store.specs.Model.{model}
 use Rattle.store.proofs.Cards.{card-here, counts}

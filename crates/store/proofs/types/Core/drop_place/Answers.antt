@@ -1,6 +1,5 @@
-use Rattle.std.proofs.Common.{None, rules}
+use Rattle.std.proofs.Common.{rules}
 use Rattle.store.proofs.Cards.{card-here, card-put}
-use Rattle.machine.specs.World.{set_place}
 use Rattle.store.proofs.types.Core.drop_place.Goals as goal
 
 pub returns-in-Some : goal.returns-in-Some

@@ -1,4 +1,4 @@
-use Rattle.std.proofs.Common.{◌≡◌, ℕ, ◌+◌, ◌<◌, false, length, get_or, drop, None, sym, ap, ◌∙◌, zero-add, arith, rules}
+use Rattle.std.proofs.Common.{◌≡◌, ◌+◌, false, length, get_or, drop, None, sym, ap, ◌∙◌, zero-add, arith}
 use Rattle.machine.specs.World.{see}
 use Rattle.machine.specs.Waiting.{put_all, put_waiting, snooped_names, name_if}
 use Rattle.store.specs.Model.{model}

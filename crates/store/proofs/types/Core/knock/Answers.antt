@@ -1,5 +1,4 @@
 use Rattle.std.proofs.Common.{refl, rules}
-use Rattle.store.proofs.Cards.{counts}
 use Rattle.store.proofs.types.Core.knock.Goals as goal
 
 pub returns-then-c-self : goal.returns-then-c-self

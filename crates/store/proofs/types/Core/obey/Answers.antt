@@ -1,4 +1,4 @@
-use Rattle.std.proofs.Common.{◌≡◌, take, set, sym, refl, ap, ◌∙◌, rules}
+use Rattle.std.proofs.Common.{◌≡◌, take, set, sym, ap, ◌∙◌, rules}
 use Rattle.machine.specs.World.{alter_card, with_cards}
 use Rattle.machine.specs.Waiting.{put_all}
 use Rattle.machine.specs.Rounds.{heed}

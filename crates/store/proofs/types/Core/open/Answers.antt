@@ -1,4 +1,4 @@
-use Rattle.std.proofs.Common.{◌≡◌, false, take, replicate, ap, arith, rules}
+use Rattle.std.proofs.Common.{◌≡◌, false, take, replicate, ap, rules}
 use Rattle.machine.specs.Rounds.{nobody}
 use Rattle.store.specs.Model.{given, within, sweeping}
 use Rattle.store.proofs.Cards.{nobody-take}

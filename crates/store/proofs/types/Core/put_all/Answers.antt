@@ -1,4 +1,4 @@
-use Rattle.std.proofs.Common.{◌≡◌, ◌+◌, drop, sym, ap, ◌∙◌, arith, rules}
+use Rattle.std.proofs.Common.{◌+◌, drop, sym, ap, ◌∙◌, arith}
 use Rattle.machine.specs.Waiting.{put_all}
 use Rattle.store.specs.Model.{model}
 use Rattle.store.proofs.Pushing.{put_all_more, put_all_end}

@@ -1,5 +1,5 @@
 use Rattle.std.proofs.Common.{rules}
-use Rattle.store.proofs.Cards.{card-here, card-put}
+use Rattle.store.proofs.Cards.{card-here}
 use Rattle.store.proofs.types.Core.read.Goals as goal
 
 pub returns-in_default : goal.returns-in_default

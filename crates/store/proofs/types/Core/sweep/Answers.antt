@@ -1,4 +1,4 @@
-use Rattle.std.proofs.Common.{◌≡◌, ℕ, ◌+◌, ◌<◌, ◌≤◌, true, length, get_or, set, sym, ap, arith, rules}
+use Rattle.std.proofs.Common.{◌≡◌, ◌+◌, ◌<◌, length, get_or, set, sym, ap, arith, rules}
 use Rattle.machine.specs.World.{free_at}
 use Rattle.machine.specs.declared.types.Cell.TheVariants.{Free}
 use Rattle.store.specs.Model.{spares, given, within, sweeping}

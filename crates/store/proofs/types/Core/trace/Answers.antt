@@ -1,4 +1,4 @@
-use Rattle.std.proofs.Common.{◌≡◌, sym, ap, ◌∙◌, rules}
+use Rattle.std.proofs.Common.{sym, ap, ◌∙◌, rules}
 use Rattle.machine.specs.Rounds.{phase_number}
 use Rattle.store.specs.Model.{model, stack}
 use Rattle.store.proofs.Attending.{trace_none}
