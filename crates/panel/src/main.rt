@@ -1,4 +1,6 @@
 //! The program: its first argument is the command.
+#![tactic(auto)]
+
 use std::env;
 
 fn main(rt: HostRuntime) -> anyhow::Result<()> {
