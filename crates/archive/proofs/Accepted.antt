@@ -1,12 +1,12 @@
 -- What it means that reading is refused with nothing. Assumes nothing.
-use Rattle.std.proofs.Common.{◌≡◌, ℕ, zero, suc, ◌+◌, ◌-◌, ◌*◌, ◌/◌, ◌%◌, ◌<◌, ◌≤◌, Bool, true, false, cond, eqb, List, length, Some, None, Option, sym, refl, ap, ◌∙◌, arith}
-use Rattle.std.proofs.lemmas.Bool.{eqb-true, eq-eqb, ne_eqb, false≢true}
+use Rattle.std.proofs.Common.{◌≡◌, ℕ, ◌*◌, ◌%◌, Bool, true, false, cond, eqb, List, length, Some, None, Option, refl, arith}
+use Rattle.std.proofs.lemmas.Bool.{eqb-true, eq-eqb, ne_eqb}
 use Rattle.refusal.specs.declared.kinds.Refusal.{Refusal}
 use Rattle.refusal.specs.declared.kinds.Refusal.TheVariants.{BadLength, BadCheck, BadArchive, OutOfRange}
 use Rattle.archive.specs.Runs.{every}
-use Rattle.archive.specs.Layout.{blocks_for, part_of}
+use Rattle.archive.specs.Layout.{blocks_for}
 use Rattle.archive.specs.Bytes.{cells_in, cards_in, links_in, code_in, next_serial_in, rounds_in, place_in, serial_in}
-use Rattle.archive.specs.Rules.{chunk, checks_right, head_right, framed, frames_right, name_right, cell_right, shared, chain_right, rules_right, archive_right, refusal_of}
+use Rattle.archive.specs.Rules.{checks_right, head_right, frames_right, name_right, cell_right, shared, chain_right, rules_right, archive_right, refusal_of}
 use Rattle.archive.proofs.Tests.{past, not_past, Limits, head_tells, head_holds}
 
 pub record Accepted {C : Type 0} (code : ℕ) (read : List ℕ → Option C) (bs : List ℕ) : Type 0 where

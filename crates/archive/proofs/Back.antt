@@ -1,9 +1,8 @@
 -- Reading what a store writes gives that store at rest.
-use Rattle.std.proofs.Common.{◌≡◌, ℕ, zero, suc, ◌+◌, ◌-◌, ◌*◌, ◌/◌, ◌%◌, ◌<◌, ◌≤◌, Bool, true, false, cond, not, ◌&&◌, eqb, ltb, ◌⊎◌, List, [], ◌∷◌, map, length, get_or, drop, is_some, Some, None, Option, sym, refl, ap, ◌∙◌, subst, inl, inr, add-one, arith}
+use Rattle.std.proofs.Common.{◌≡◌, ℕ, zero, suc, ◌+◌, ◌-◌, ◌*◌, ◌/◌, ◌%◌, ◌<◌, ◌≤◌, Bool, true, false, cond, not, ◌&&◌, eqb, ltb, ◌⊎◌, List, [], ◌∷◌, map, length, get_or, is_some, Some, None, Option, sym, refl, ap, ◌∙◌, subst, inl, inr, add-one, arith}
 use Rattle.std.specs.List.{slice_get, AllByRecursion as All}
 use Rattle.std.proofs.lemmas.Bool.{cases_eq, cases_lt, cases_Bool, eq-eqb, ne_eqb, lt-ltb, le-ltb, false≢true, and_from}
 use Rattle.std.proofs.lemmas.List.{get_or_past, get_or-map, length-map, ext_get_or}
-use Rattle.octets.specs.Numbers.{un16}
 use Rattle.octets.specs.Block.{block_of, check_right}
 use Rattle.line.specs.Lines.{Among}
 use Rattle.laws.specs.Steps.{Distinct}
@@ -11,27 +10,27 @@ use Rattle.machine.specs.declared.types.Record.{Record}
 use Rattle.machine.specs.declared.types.Cell.{Cell}
 use Rattle.machine.specs.declared.types.Cell.TheVariants.{Free, Used}
 use Rattle.machine.specs.declared.types.Colour.TheVariants.{Zero}
-use Rattle.machine.specs.World.{World, Name, see, at, used, serial_at, links_at, card, place, named, read_all, newborn, blank_card}
+use Rattle.machine.specs.World.{World, Name, see, at, used, serial_at, card, place, named, read_all, newborn, blank_card}
 use Rattle.store.proofs.Cards.{read_four}
-use Rattle.archive.specs.Runs.{run, every, tab}
+use Rattle.archive.specs.Runs.{every, tab}
 use Rattle.archive.specs.Layout.{told, told_free, after, head_bytes, part_of, archive_block, archive_of, blocks_for}
-use Rattle.archive.specs.Bytes.{unname, cells_in, cards_in, links_in, code_in, next_serial_in, rounds_in, first_in, place_in, serial_in, form_in, link_in, rest_in, next_in, free_in}
-use Rattle.archive.specs.Rules.{is_blank, chunk, checks_right, framed, frames_right, name_right, cell_right, shared, count_free, follows, chain_right, refusal_of}
+use Rattle.archive.specs.Bytes.{unname, cells_in, cards_in, next_serial_in, first_in, place_in, serial_in, form_in, link_in, rest_in, next_in, free_in}
+use Rattle.archive.specs.Rules.{is_blank, chunk, checks_right, framed, frames_right, name_right, cell_right, shared, count_free, follows, chain_right}
 use Rattle.archive.specs.Reading.{links_of, cell_in, value_in, set_if, filled, places_of, card_with, card_in, chain_from, world_in}
 use Rattle.archive.specs.Good.{Good, rested_cell, rested_card, value_of, at_rest}
 use Rattle.archive.specs.Laws.{Back}
 use Rattle.archive.proofs.Chains.{Chain, times, one, EachOnce, accepted}
 use Rattle.archive.proofs.Chained.{Of, listed, chain_same}
 use Rattle.archive.proofs.Serials.{distinct_no}
-use Rattle.archive.proofs.Steps.{free_yes, free_not, free_past, free-low}
+use Rattle.archive.proofs.Steps.{free_yes, free_not, free-low}
 use Rattle.archive.proofs.Every.{every_all}
 use Rattle.archive.proofs.Tests.{name_none, name_is, cell_blank, cell_full}
 use Rattle.archive.proofs.Runs.{tab_is}
 use Rattle.archive.proofs.Tables.{value_none, value_is, rest-same}
 use Rattle.archive.proofs.Worlds.{cell_in_free, cell_in_used, place_at}
-use Rattle.archive.proofs.Rests.{times_among, among_times, all_among, none_some}
+use Rattle.archive.proofs.Rests.{times_among, among_times}
 use Rattle.archive.proofs.Accepted.{Accepted, accepted_holds}
-use Rattle.archive.proofs.Written.{told-most, head_long, body, body-long, head_block, cells_blocked, bytes_long, chunk_is, cells_read, cards_read, links_read, code_read, next_read, rounds_read, first_read, place_read, free-says, used-says, FreeSays, UsedSays}
+use Rattle.archive.proofs.Written.{head_long, body-long, head_block, cells_blocked, bytes_long, chunk_is, cells_read, cards_read, links_read, code_read, next_read, rounds_read, first_read, place_read, free-says, used-says, FreeSays, UsedSays}
 
 -- names
 

@@ -1,12 +1,10 @@
 -- The bytes of one cell.
-use Rattle.std.proofs.Common.{◌≡◌, ℕ, ◌+◌, ◌*◌, ◌<◌, ◌≤◌, List, [], ◌∷◌, ◌++◌, length, get_or, replicate, Some, None, Option, sym, refl, ap, ◌∙◌, add-one, arith}
+use Rattle.std.proofs.Common.{◌≡◌, ℕ, ◌+◌, ◌*◌, List, length, Some, sym, ap, ◌∙◌, add-one}
 use Rattle.std.specs.List.{slice_get}
-use Rattle.std.proofs.lemmas.Option.{slice_get_read}
-use Rattle.machine.specs.declared.types.Cell.{Cell}
 use Rattle.machine.specs.declared.types.Cell.TheVariants.{Free, Used}
 use Rattle.machine.specs.declared.types.Record.{Record}
 use Rattle.machine.specs.World.{World, at}
-use Rattle.archive.specs.Layout.{after, told_free, link_bytes, form_of, record_bytes, free_bytes, cell_bytes, part_of, archive_block, archive_of, blocks_for}
+use Rattle.archive.specs.Layout.{after, told_free, link_bytes, record_bytes, free_bytes, cell_bytes, part_of, archive_block, archive_of, blocks_for}
 use Rattle.archive.specs.Runs.{run}
 use Rattle.octets.specs.Block.{block_of}
 

@@ -1,22 +1,21 @@
 -- Bytes that are read are the bytes that the store read from them writes.
-use Rattle.std.proofs.Common.{◌≡◌, ℕ, zero, suc, ◌+◌, ◌-◌, ◌*◌, ◌/◌, ◌%◌, ◌<◌, ◌≤◌, min, Bool, true, false, cond, eqb, ltb, List, [], ◌∷◌, ◌++◌, length, get_or, take, drop, replicate, is_some, Some, None, Option, sym, refl, ap, ◌∙◌, subst, inl, inr, add-one, arith}
+use Rattle.std.proofs.Common.{◌≡◌, ℕ, zero, suc, ◌+◌, ◌-◌, ◌*◌, ◌/◌, ◌%◌, ◌<◌, ◌≤◌, true, false, cond, eqb, ltb, List, [], ◌∷◌, length, get_or, take, drop, is_some, Some, None, Option, sym, refl, ap, ◌∙◌, inl, inr, add-one, arith}
 use Rattle.std.specs.List.{slice_get, AllByRecursion as All}
-use Rattle.std.proofs.lemmas.Bool.{cases_eq, cases_lt, eq-eqb, ne_eqb, lt-ltb, eqb-true, eqb-false, ltb-true, ltb-false, false≢true}
+use Rattle.std.proofs.lemmas.Bool.{cases_eq, cases_lt, eq-eqb, ne_eqb, lt-ltb, eqb-false, ltb-false, false≢true}
 use Rattle.std.proofs.lemmas.List.{drop-drop, take_all, length-drop, length-take-le}
-use Rattle.octets.specs.Numbers.{le16, le32, un16, un32, Bytes}
+use Rattle.octets.specs.Numbers.{le16, un16, Bytes}
 use Rattle.octets.specs.Block.{block_of, check_right}
-use Rattle.machine.specs.declared.types.Cell.{Cell}
 use Rattle.machine.specs.declared.types.Cell.TheVariants.{Free, Used}
 use Rattle.machine.specs.declared.types.Colour.TheVariants.{Zero}
-use Rattle.machine.specs.World.{World, at, card, newborn, see}
-use Rattle.archive.specs.Runs.{run, every, tab}
-use Rattle.archive.specs.Layout.{told, told_free, after, link_bytes, record_bytes, free_bytes, cell_bytes, places_bytes, place_bytes, front_bytes, front_of, head_bytes, part_of, archive_block, archive_of, blocks_for}
-use Rattle.archive.specs.Bytes.{unname, cells_in, cards_in, links_in, code_in, next_serial_in, rounds_in, first_in, place_in, spot, serial_in, form_in, link_in, rest_in, next_in, free_in}
-use Rattle.archive.specs.Rules.{is_blank, chunk, checks_right, framed, frames_right, name_right, cell_right, count_free, follows, chain_right, refusal_of}
-use Rattle.archive.specs.Reading.{links_of, cell_in, value_in, places_of, chain_from, world_in}
+use Rattle.machine.specs.World.{World, newborn}
+use Rattle.archive.specs.Runs.{run, every}
+use Rattle.archive.specs.Layout.{told, told_free, after, free_bytes, cell_bytes, places_bytes, place_bytes, front_of, head_bytes, part_of, archive_block, archive_of, blocks_for}
+use Rattle.archive.specs.Bytes.{unname, cells_in, cards_in, next_serial_in, rounds_in, first_in, place_in, spot, serial_in, form_in, link_in, rest_in, next_in, free_in}
+use Rattle.archive.specs.Rules.{is_blank, chunk, checks_right, framed, frames_right, name_right, cell_right, count_free, follows, chain_right}
+use Rattle.archive.specs.Reading.{links_of, value_in, places_of, chain_from, world_in}
 use Rattle.archive.specs.Laws.{Forth, Once}
 use Rattle.archive.proofs.Glue.{two_at, four-at, zeros_at, glue, run-from, inside, block_forth, take_bytes, drop_bytes}
-use Rattle.archive.proofs.Chains.{Chain, times, EachOnce, one}
+use Rattle.archive.proofs.Chains.{Chain, times}
 use Rattle.archive.proofs.Chained.{Of, listed, listed_once, chain_first, chain_after, first_of, next_of}
 use Rattle.archive.proofs.Steps.{free_yes, free-low}
 use Rattle.archive.proofs.Tests.{past, not_past, cell_blank, cell_high, cell_full}
@@ -24,7 +23,7 @@ use Rattle.archive.proofs.Every.{every_each}
 use Rattle.archive.proofs.Cells.{cell_free, cell_used}
 use Rattle.archive.proofs.Heads.{front_is}
 use Rattle.archive.proofs.Tables.{value_is}
-use Rattle.archive.proofs.Worlds.{cell_in_free, cell_in_used, place_at, filled_at, world-cells, world-contents, world-cards, world_free, world-next, world-rounds, world-long, world-count, world-at, world-card}
+use Rattle.archive.proofs.Worlds.{cell_in_free, cell_in_used, place_at, filled_at, world-contents, world_free, world-next, world-rounds, world-long, world-count, world-at, world-card}
 use Rattle.archive.proofs.Accepted.{Accepted, accepted_tells}
 
 -- a number that names a free cell, or none, as it is written again

@@ -1,10 +1,9 @@
 -- The free list, cell by cell.
-use Rattle.std.proofs.Common.{◌≡◌, ℕ, zero, suc, ◌+◌, ◌<◌, ◌≤◌, Bool, true, false, cond, eqb, List, [], ◌∷◌, length, get_or, drop, Some, None, vec_items, vec_len, vec_capacity, Option, Vec, sym, refl, ap, ◌∙◌, inl, inr, add-one, arith}
+use Rattle.std.proofs.Common.{◌≡◌, ℕ, zero, suc, ◌≤◌, true, false, eqb, List, [], ◌∷◌, length, drop, Some, None, vec_items, vec_len, Vec, sym, refl, ◌∙◌, arith}
 use Rattle.std.specs.List.{slice_get}
 use Rattle.std.proofs.lemmas.Bool.{eq-eqb, ne_eqb}
 use Rattle.std.proofs.lemmas.List.{length-reverse, at_drop_all}
-use Rattle.machine.specs.World.{World}
-use Rattle.store.specs.Model.{stack, spares}
+use Rattle.store.specs.Model.{stack}
 use Rattle.store.specs.World.{world}
 use Rattle.store.proofs.Cells.{spares-most}
 use Rattle.store.specs.declared.whole.Store.{Store}

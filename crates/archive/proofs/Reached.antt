@@ -1,5 +1,5 @@
 -- A store that a run of calls leads to can be archived.
-use Rattle.std.proofs.Common.{◌≡◌, ℕ, List, length, refl, ◌∙◌, arith}
+use Rattle.std.proofs.Common.{◌≡◌, List, length, refl, ◌∙◌, arith}
 use Rattle.machine.specs.declared.types.Call.{Call}
 use Rattle.machine.specs.declared.types.Answer.{Answer}
 use Rattle.machine.specs.World.{World}
@@ -9,7 +9,6 @@ use Rattle.laws.proofs.Handshake.{grows}
 use Rattle.laws.proofs.Inv.{Inv}
 use Rattle.laws.proofs.Invariant.{inv_start, inv_step}
 use Rattle.laws.proofs.Runs.{changed}
-use Rattle.archive.specs.Good.{Good, Sizes}
 use Rattle.archive.specs.Laws.{Reached}
 
 along : {C : Type 0} {w v : World C} {m l : Meaning} {ks : List (Call C)} {rs : List (Answer C)} → Inv w m → Run w m ks rs v l → Inv v l

@@ -1,21 +1,18 @@
 -- A store that was read is at rest.
 use Rattle.std.proofs.Common.{◌≡◌, ℕ, zero, suc, ◌+◌, ◌-◌, ◌*◌, ◌<◌, ◌≤◌, Bool, true, false, cond, not, ◌&&◌, eqb, ltb, ◌⊎◌, List, [], ◌∷◌, length, get_or, replicate, is_some, Some, None, Option, sym, refl, ap, ◌∙◌, subst, inl, inr, arith}
 use Rattle.std.specs.List.{AllByRecursion as All}
-use Rattle.std.proofs.lemmas.Bool.{cases_eq, cases_lt, cases_Bool, eq-eqb, ne_eqb, lt-ltb, eqb-true, ltb-true, false≢true, and_parts}
+use Rattle.std.proofs.lemmas.Bool.{cases_eq, cases_lt, eq-eqb, ne_eqb, lt-ltb, eqb-true, ltb-true, false≢true, and_parts}
 use Rattle.std.proofs.lemmas.List.{get_or_past, length-replicate}
 use Rattle.line.specs.Lines.{Among}
 use Rattle.laws.specs.Steps.{AtRest, Distinct}
 use Rattle.machine.specs.declared.types.Record.{Record}
-use Rattle.machine.specs.declared.types.Cell.{Cell}
 use Rattle.machine.specs.declared.types.Cell.TheVariants.{Free, Used}
 use Rattle.machine.specs.declared.types.Card.{Card}
 use Rattle.machine.specs.declared.types.Colour.TheVariants.{Zero}
-use Rattle.machine.specs.declared.types.Phase.TheVariants.{Rest}
-use Rattle.machine.specs.World.{World, Name, see, at, used, serial_at, links_at, link, card, place, blank_card, newborn}
-use Rattle.archive.specs.Runs.{every, tab}
+use Rattle.machine.specs.World.{World, Name, see, at, used, serial_at, link, card, place, blank_card, newborn}
 use Rattle.archive.specs.Bytes.{unname, cells_in, cards_in, next_serial_in, rounds_in, first_in, place_in, serial_in, form_in, link_in, next_in, free_in}
-use Rattle.archive.specs.Rules.{name_right, cell_right, shared, count_free, follows, chain_right, refusal_of}
-use Rattle.archive.specs.Reading.{links_of, cell_in, places_of, card_with, card_in, chain_from, world_in}
+use Rattle.archive.specs.Rules.{name_right, cell_right, count_free, follows, chain_right}
+use Rattle.archive.specs.Reading.{links_of, places_of, card_with, chain_from, world_in}
 use Rattle.archive.specs.Laws.{Starts}
 use Rattle.archive.proofs.Chains.{times, one, EachOnce}
 use Rattle.archive.proofs.Chained.{listed, listed_once}
@@ -25,7 +22,7 @@ use Rattle.archive.proofs.Tests.{past, cell_high, cell_full}
 use Rattle.archive.proofs.Every.{every_each}
 use Rattle.archive.proofs.Tables.{filled-length}
 use Rattle.archive.proofs.Forth.{name_tells}
-use Rattle.archive.proofs.Worlds.{cell_in_free, cell_in_used, place_at, world-cells, world-contents, world-cards, world_free, world-next, world-rounds, world-long, world-count, world-at, world-card}
+use Rattle.archive.proofs.Worlds.{cell_in_free, cell_in_used, place_at, world-long, world-count, world-at, world-card}
 use Rattle.archive.proofs.Accepted.{Accepted, accepted_tells}
 
 -- lists of cells

@@ -1,7 +1,7 @@
 -- Lists in a row, all of one length. Assumes nothing.
-use Rattle.std.proofs.Common.{◌≡◌, ℕ, zero, suc, ◌+◌, ◌*◌, ◌<◌, ◌≤◌, List, [], ◌∷◌, ◌++◌, length, get_or, take, drop, sym, refl, ap, ◌∙◌, inl, inr, mul-suc, add-one, arith, take-add}
+use Rattle.std.proofs.Common.{◌≡◌, ℕ, zero, suc, ◌+◌, ◌<◌, ◌≤◌, List, [], ◌∷◌, ◌++◌, length, get_or, take, sym, refl, ap, ◌∙◌, inl, inr, add-one, arith}
 use Rattle.std.proofs.lemmas.Bool.{cases_eq}
-use Rattle.std.proofs.lemmas.List.{take_all, take_at, drop_at, take-append-le, drop-append-le, length-append, length-drop, length_push, get_or_push, get_or_append_left, ext_get_or, length-take-le, get_or-take}
+use Rattle.std.proofs.lemmas.List.{length_push, get_or_push, get_or_append_left, ext_get_or, length-take-le, get_or-take}
 use Rattle.archive.specs.Runs.{run, tab}
 
 pub run_none : {X : Type 0} (f : ℕ → List X) → run f 0 ≡ []

@@ -1,15 +1,14 @@
 -- The store that is read, field by field.
-use Rattle.std.proofs.Common.{◌≡◌, ℕ, zero, suc, ◌+◌, ◌*◌, ◌<◌, ◌≤◌, Bool, true, false, cond, eqb, ◌≢◌, List, [], ◌∷◌, length, get_or, set, replicate, Some, None, Option, sym, refl, ap, ◌∙◌, inl, inr, arith}
+use Rattle.std.proofs.Common.{◌≡◌, ℕ, zero, suc, ◌+◌, ◌*◌, ◌<◌, ◌≤◌, true, false, eqb, ◌≢◌, List, length, get_or, set, Some, None, Option, sym, refl, ap, ◌∙◌, inl, inr, arith}
 use Rattle.std.specs.List.{slice_get}
 use Rattle.std.proofs.lemmas.Bool.{eq-eqb, ne_eqb, cases_eq}
 use Rattle.std.proofs.lemmas.Option.{slice_get-get_or}
 use Rattle.std.proofs.lemmas.List.{get_or-set_same, get_or-set_other, length-set}
-use Rattle.machine.specs.declared.types.Cell.{Cell}
 use Rattle.machine.specs.declared.types.Cell.TheVariants.{Free, Used}
 use Rattle.machine.specs.declared.types.Colour.TheVariants.{Zero}
-use Rattle.machine.specs.World.{World, at, card, newborn, blank_card}
+use Rattle.machine.specs.World.{at, card, newborn, blank_card}
 use Rattle.archive.specs.Runs.{tab}
-use Rattle.archive.specs.Bytes.{unname, cells_in, cards_in, next_serial_in, rounds_in, first_in, place_in, serial_in, link_in, next_in, free_in}
+use Rattle.archive.specs.Bytes.{unname, cells_in, cards_in, next_serial_in, rounds_in, first_in, place_in, serial_in, next_in, free_in}
 use Rattle.archive.specs.Rules.{count_free}
 use Rattle.archive.specs.Reading.{links_of, cell_in, value_in, set_if, filled, places_of, card_with, card_in, chain_from, world_in}
 use Rattle.archive.proofs.Runs.{tab-length, tab-at}

@@ -1,21 +1,20 @@
 -- What the bytes that a store writes say.
-use Rattle.std.proofs.Common.{◌≡◌, ℕ, zero, suc, ◌+◌, ◌-◌, ◌*◌, ◌/◌, ◌%◌, ◌<◌, ◌≤◌, min, Bool, true, false, cond, eqb, ltb, ◌⊎◌, List, [], ◌∷◌, ◌++◌, length, get_or, take, drop, replicate, Some, None, Option, sym, refl, ap, ◌∙◌, subst, inl, inr, arith}
+use Rattle.std.proofs.Common.{◌≡◌, ℕ, zero, suc, ◌+◌, ◌*◌, ◌/◌, ◌%◌, ◌<◌, ◌≤◌, true, false, ltb, List, length, get_or, take, drop, Some, None, Option, sym, refl, ap, ◌∙◌, inl, inr, arith}
 use Rattle.std.specs.List.{slice_get}
-use Rattle.std.proofs.lemmas.Bool.{cases_eq, cases_lt, cases_Bool, eq-eqb, ne_eqb, lt-ltb, le-ltb}
+use Rattle.std.proofs.lemmas.Bool.{cases_lt, lt-ltb, le-ltb}
 use Rattle.std.proofs.lemmas.List.{drop-drop, take_all, take_at, drop_at, length-append, get_or_past}
-use Rattle.octets.specs.Numbers.{le16, le32, un16, un32}
+use Rattle.octets.specs.Numbers.{le16, un16}
 use Rattle.octets.specs.Block.{block_of}
 use Rattle.machine.specs.declared.types.Record.{Record}
 use Rattle.machine.specs.declared.types.Cell.{Cell}
 use Rattle.machine.specs.declared.types.Cell.TheVariants.{Free, Used}
 use Rattle.machine.specs.World.{World, Name, see, at, card, place}
 use Rattle.archive.specs.Runs.{run}
-use Rattle.archive.specs.Layout.{told, told_free, after, link_bytes, form_of, record_bytes, free_bytes, cell_bytes, places_bytes, place_bytes, front_bytes, front_of, head_bytes, part_of, archive_block, archive_of, blocks_for}
+use Rattle.archive.specs.Layout.{told, told_free, after, link_bytes, form_of, record_bytes, free_bytes, cell_bytes, place_bytes, front_bytes, front_of, head_bytes, part_of, archive_block, archive_of, blocks_for}
 use Rattle.archive.specs.Bytes.{cells_in, cards_in, links_in, code_in, next_serial_in, rounds_in, place_in, spot, serial_in, form_in, link_in, rest_in}
 use Rattle.archive.specs.Rules.{is_blank, chunk}
 use Rattle.archive.specs.Good.{Good}
 use Rattle.archive.proofs.Glue.{inside, run_length, run_at, part_of_lem, two_read, four_read, Blocked, blocked}
-use Rattle.archive.proofs.Zeros.{zeros_blank}
 use Rattle.archive.proofs.Cells.{cell_free, cell_used}
 
 pub told-most : (h : List Cell) (v : Name) → told h v ≤ length h

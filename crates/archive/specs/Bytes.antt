@@ -1,5 +1,5 @@
 -- What an archive's bytes say, by their places. Assumes nothing.
-use Rattle.std.specs.Prelude.{ℕ, zero, suc, ◌+◌, ◌-◌, ◌*◌, ◌/◌, ◌%◌, Bool, true, false, cond, ◌&&◌, List, [], ◌∷◌, take, drop, Some, None, Option, ◌==◌, nat_lt}
+use Rattle.std.specs.Prelude.{ℕ, ◌+◌, ◌-◌, ◌*◌, ◌/◌, ◌%◌, Bool, cond, ◌&&◌, List, take, drop, Some, None, ◌==◌, nat_lt}
 use Rattle.octets.specs.Numbers.{un16, un32}
 use Rattle.machine.specs.World.{Name}
 

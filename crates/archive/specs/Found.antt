@@ -1,5 +1,5 @@
 -- What a reading has found of the bytes and the tables before it writes: enough for a store.
-use Rattle.std.specs.Prelude.{◌≡◌, ℕ, ◌*◌, ◌≤◌, length, vec_len, vec_capacity}
+use Rattle.std.specs.Prelude.{◌≡◌, ◌*◌, ◌≤◌, length, vec_len, vec_capacity}
 use Rattle.archive.specs.Layout.{blocks_for}
 use Rattle.archive.specs.Bytes.{cells_in, cards_in, rounds_in}
 use Rattle.archive.specs.declared.found.Found.{Found}

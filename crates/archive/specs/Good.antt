@@ -1,5 +1,5 @@
 -- A store that an archive can hold, as every store is that a run of calls leads to; and such a store at rest.
-use Rattle.std.specs.Prelude.{◌≡◌, ℕ, ◌<◌, ◌≤◌, Bool, true, false, List, [], ◌∷◌, map, length, Some, None, Option}
+use Rattle.std.specs.Prelude.{◌≡◌, ℕ, ◌<◌, ◌≤◌, true, false, List, map, length, None, Option}
 use Rattle.std.specs.List.{slice_get}
 use Rattle.line.specs.Lines.{Among}
 use Rattle.laws.specs.Steps.{Distinct}

@@ -1,5 +1,5 @@
 -- What writing and reading owe each other.
-use Rattle.std.specs.Prelude.{◌≡◌, ℕ, ◌<◌, ◌≤◌, Bool, true, false, List, [], length, Some, None, Option}
+use Rattle.std.specs.Prelude.{◌≡◌, ℕ, ◌≤◌, List, length, None, Option}
 use Rattle.octets.specs.Numbers.{Bytes}
 use Rattle.machine.specs.World.{World}
 use Rattle.line.specs.Lines.{Meaning}

@@ -1,10 +1,10 @@
 -- The bytes of an archive: a head, then the cells in order, 18 to a block. Assumes nothing.
-use Rattle.std.specs.Prelude.{◌≡◌, ℕ, zero, suc, ◌+◌, ◌-◌, ◌*◌, ◌/◌, min, Bool, true, false, cond, List, [], ◌∷◌, ◌++◌, length, replicate, Some, None, Option, ◌==◌, nat_lt, slice_index_or}
+use Rattle.std.specs.Prelude.{ℕ, zero, suc, ◌+◌, ◌-◌, ◌*◌, ◌/◌, min, cond, List, [], ◌∷◌, ◌++◌, length, replicate, Some, None, Option, ◌==◌, nat_lt, slice_index_or}
 use Rattle.std.specs.List.{slice_get}
 use Rattle.octets.specs.Numbers.{le16, le32}
 use Rattle.octets.specs.Block.{block_of}
 use Rattle.machine.specs.declared.types.Cell.{Cell}
-use Rattle.machine.specs.declared.types.Cell.TheVariants.{Free, Used}
+use Rattle.machine.specs.declared.types.Cell.TheVariants.{Free}
 use Rattle.machine.specs.World.{World, Name, see, at, card}
 use Rattle.archive.specs.Runs.{run}
 

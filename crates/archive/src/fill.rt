@@ -22,7 +22,7 @@ pub(crate) fn fill_cells(cells: &mut [Cell], bytes: &[u8])
 
 fn value_in<C: Contents>(bytes: &[u8], n: usize, k: usize) -> Option<C>
     requires { (Sized n (length bytes.now)) × (k < n) }
-    ensures { result ≡ value_in read bytes.now k }
+    ensures { result ≡ value_in C.read bytes.now k }
 {
     if serial_in(bytes, n, k) == 0 {
         return None;
@@ -41,7 +41,7 @@ fn set_if<C: Copy>(table: &mut [C], k: usize, v: Option<C>)
 
 pub(crate) fn fill_contents<C: Contents>(contents: &mut [C], bytes: &[u8])
     requires { Sized (length contents.old) (length bytes.now) }
-    ensures { contents.new ≡ filled (value_in read bytes.now) contents.old (length contents.old) }
+    ensures { contents.new ≡ filled (value_in C.read bytes.now) contents.old (length contents.old) }
 {
     let n = contents.len();
     for k in 0..n {

@@ -7,10 +7,10 @@ use contents::Contents;
 /// was read is one where runs may start; and reading what a store writes gives that store at rest. Answers the code of the
 /// kind.
 pub fn archive_laws<C: Contents>() -> u16
-    ensures forth { Forth number form read }
-    ensures once { Once number read }
-    ensures starts { Starts number read }
-    ensures back { Back number form read }
+    ensures forth { Forth C.number C.form C.read }
+    ensures once { Once C.number C.read }
+    ensures starts { Starts C.number C.read }
+    ensures back { Back C.number C.form C.read }
 {
     C::tag()
 }

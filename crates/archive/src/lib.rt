@@ -1,5 +1,7 @@
 //! A store as bytes: blocks of 512 bytes, the head first and then the cells in order, written and read once for every kind
 //! of contents.
+#![tactic(auto)]
+
 mod fill;
 mod found;
 mod laws;

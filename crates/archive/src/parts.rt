@@ -91,7 +91,7 @@ pub(crate) fn after<C: Copy>(store: &Store<'_, C>, k: u16) -> Option<u16>
 // Writes the 28 bytes of cell k.
 pub(crate) fn write_cell<C: Contents>(out: &mut [u8], store: &Store<'_, C>, k: usize)
     requires { (length out.old ≡ 28) × (k < length (world store.now).cells) }
-    ensures { out.new ≡ cell_bytes form (world store.now) k }
+    ensures { out.new ≡ cell_bytes C.form (world store.now) k }
 {
     let cells = store.cells();
     match cells[k] {

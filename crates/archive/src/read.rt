@@ -20,7 +20,7 @@ use store::{NotMade, Restore, Stock, Store, Why};
 
 // What reading is refused with, if it is.
 fn refused<C: Contents>(bytes: &[u8], cells: usize, contents: usize) -> Option<Refusal>
-    ensures { result ≡ refusal_of number read bytes.now cells contents }
+    ensures { result ≡ refusal_of C.number C.read bytes.now cells contents }
 {
     if bytes.len() == 0 {
         return Some(Refusal::BadLength);
@@ -47,7 +47,7 @@ fn refused<C: Contents>(bytes: &[u8], cells: usize, contents: usize) -> Option<R
 // Fills the tables and lists what else the store is made of.
 fn stock_of<'a, 'b, C: Contents>(found: Found<'a, 'b, C>) -> Stock<'a, C>
     requires { (Sizes found) × ((Tables found) × ((Numbers found) × (Room found))) }
-    ensures is { restored result ≡ world_in read found.entry.bytes.now found.entry.contents.now }
+    ensures is { restored result ≡ world_in C.read found.entry.bytes.now found.entry.contents.now }
     ensures fitting { Fitting result }
     ensures counted { Counted result }
     ensures listed { Listed result }
@@ -90,7 +90,7 @@ impl<'a, 'b, C: Contents> Reading<'a, 'b, C> {
         cells: &'a mut [Cell],
         contents: &'a mut [C],
     ) -> Result<Reading<'a, 'b, C>, NotMade<'a, C>>
-        ensures { Checked number read bytes.now cells.old contents.old result }
+        ensures { Checked C.number C.read bytes.now cells.old contents.old result }
     {
         if let Some(why) = refused::<C>(bytes, cells.len(), contents.len()) {
             return Err(NotMade {
@@ -133,7 +133,7 @@ impl<'a, 'b, C: Contents> Reading<'a, 'b, C> {
 
     /// Fills the tables and makes the store. It cannot fail.
     pub fn make(self) -> Store<'a, C>
-        ensures { world result ≡ world_in read self.entry.found.bytes.now self.entry.found.contents.now }
+        ensures { world result ≡ world_in C.read self.entry.found.bytes.now self.entry.found.contents.now }
     {
         let Reading { found } = self;
         Restore {

@@ -139,7 +139,7 @@ fn links_right(bytes: &[u8], n: usize, k: usize) -> bool
 
 fn cell_right<C: Contents>(bytes: &[u8], n: usize, k: usize) -> bool
     requires { (Sized n (length bytes.now)) × (k < n) }
-    ensures { result ≡ cell_right read bytes.now n k }
+    ensures { result ≡ cell_right C.read bytes.now n k }
 {
     let serial = serial_in(bytes, n, k);
     let form = form_in(bytes, n, k);
@@ -160,7 +160,7 @@ fn cell_right<C: Contents>(bytes: &[u8], n: usize, k: usize) -> bool
 
 fn cells_right<C: Contents>(bytes: &[u8], n: usize) -> bool
     requires { Sized n (length bytes.now) }
-    ensures { result ≡ every (cell_right read bytes.now n) n }
+    ensures { result ≡ every (cell_right C.read bytes.now n) n }
 {
     for k in 0..n {
         if !cell_right::<C>(bytes, n, k) {
@@ -251,7 +251,7 @@ fn chain_right(bytes: &[u8], n: usize) -> bool
 
 fn rules_right<C: Contents>(bytes: &[u8], n: usize, cards: usize) -> bool
     requires { (n ≤ 4096) × ((cards ≤ 8) × ((n ≡ cells_in bytes.now) × (cards ≡ cards_in bytes.now))) }
-    ensures { result ≡ rules_right read bytes.now }
+    ensures { result ≡ rules_right C.read bytes.now }
 {
     if bytes.len() != 512 * (1 + (n + 17) / 18) {
         return false;
@@ -274,7 +274,7 @@ fn rules_right<C: Contents>(bytes: &[u8], n: usize, cards: usize) -> bool
 // All rules but those of length and check.
 pub(crate) fn archive_right<C: Contents>(bytes: &[u8]) -> bool
     requires { 512 ≤ length bytes.now }
-    ensures { result ≡ archive_right number read bytes.now }
+    ensures { result ≡ archive_right C.number C.read bytes.now }
 {
     if !head_right(bytes, C::tag()) {
         return false;

@@ -84,7 +84,7 @@ fn places_bytes(cells: &[Cell], places: [Option<u16>; 8]) -> [u8; 16]
 }
 
 fn front_of<C: Contents>(store: &Store<'_, C>) -> [u8; 18]
-    ensures { result ≡ front_of number (world store.now) }
+    ensures { result ≡ front_of C.number (world store.now) }
 {
     let n = store.cells().len();
     let first = told_free(n, store.free_cell(0));
@@ -101,7 +101,7 @@ fn front_of<C: Contents>(store: &Store<'_, C>) -> [u8; 18]
 // Puts the head at the front of a body, which has room for eight cards.
 fn fill_head<C: Contents>(body: &mut [u8], store: &Store<'_, C>)
     requires { length body.old ≡ 146 }
-    ensures { take (18 + 16 * length (world store.now).cards) body.new ≡ head_bytes number (world store.now) }
+    ensures { take (18 + 16 * length (world store.now).cards) body.new ≡ head_bytes C.number (world store.now) }
 {
     put(body, 0, &front_of(store));
     let cells = store.cells();
@@ -115,7 +115,7 @@ fn fill_head<C: Contents>(body: &mut [u8], store: &Store<'_, C>)
 // Puts the bytes of some cells at the front of a body, which has room for 18.
 fn fill_cells<C: Contents>(body: &mut [u8], store: &Store<'_, C>, from: usize, count: usize)
     requires { (length body.old ≡ 504) × ((count ≤ 18) × (from + count ≤ length (world store.now).cells)) }
-    ensures { take (28 * count) body.new ≡ run (λ j. cell_bytes form (world store.now) (from + j)) count }
+    ensures { take (28 * count) body.new ≡ run (λ j. cell_bytes C.form (world store.now) (from + j)) count }
 {
     for j in 0..count {
         let at = 28 * j;
@@ -133,7 +133,7 @@ fn seal(out: &mut [u8], number: u16, count: u16, body: &[u8])
 
 fn write_head<C: Contents>(out: &mut [u8], store: &Store<'_, C>)
     requires { length out.old ≡ 512 }
-    ensures { out.new ≡ archive_block number form (world store.now) 0 }
+    ensures { out.new ≡ archive_block C.number C.form (world store.now) 0 }
 {
     let mut body = [0u8; 146];
     fill_head(&mut body, store);
@@ -151,7 +151,7 @@ pub(crate) fn part_of(n: usize, b: usize) -> usize
 
 fn write_cells<C: Contents>(out: &mut [u8], store: &Store<'_, C>, b: usize)
     requires { (length out.old ≡ 512) × (18 * b < length (world store.now).cells) }
-    ensures { out.new ≡ archive_block number form (world store.now) (b + 1) }
+    ensures { out.new ≡ archive_block C.number C.form (world store.now) (b + 1) }
 {
     let count = part_of(store.cells().len(), b);
     let mut body = [0u8; 504];
@@ -162,7 +162,7 @@ fn write_cells<C: Contents>(out: &mut [u8], store: &Store<'_, C>, b: usize)
 // Writes all blocks.
 fn write_blocks<C: Contents>(store: &Store<'_, C>, out: &mut [u8])
     requires { length out.old ≡ 512 * blocks_for (length (world store.now).cells) }
-    ensures { out.new ≡ archive_of number form (world store.now) }
+    ensures { out.new ≡ archive_of C.number C.form (world store.now) }
 {
     let n = store.cells().len();
     write_head(&mut out[0..512], store);
@@ -185,7 +185,7 @@ pub fn blocks_of<C: Copy>(store: &Store<'_, C>) -> u32
 /// Writes the archive of a store over `out`, and answers the number of its blocks. Refused with 4 where an update is in
 /// hand on a card, with 7 outside Rest, and with 14 where `out` is not of the archive's length; `out` then stays as it was.
 pub fn write_archive<C: Contents>(store: &Store<'_, C>, out: &mut [u8]) -> Result<u32, Refusal>
-    ensures { (result, out.new) ≡ writing number form (world store.now) out.old }
+    ensures { (result, out.new) ≡ writing C.number C.form (world store.now) out.old }
 {
     if in_hand(store.cards()) {
         return Err(Refusal::UpdateInHand);

@@ -1,6 +1,6 @@
-use Rattle.std.proofs.Common.{◌≡◌, ◌-◌, ◌∷◌, Some, None, sym, refl, ap, ◌∙◌, arith, rules}
+use Rattle.std.proofs.Common.{◌-◌, ◌∷◌, sym, ap, ◌∙◌, arith, rules}
 use Rattle.store.proofs.Stacks.{stack_none}
-use Rattle.archive.specs.Bytes.{free_in, next_in, link_in, unname}
+use Rattle.archive.specs.Bytes.{free_in, next_in, unname}
 use Rattle.archive.specs.Reading.{chain_from}
 use Rattle.archive.proofs.Lists.{chain_out, chain_none, chain_not, chain_more}
 use Rattle.archive.proofs.fill.+list_chain.Goals as goal

@@ -1,5 +1,4 @@
-use Rattle.std.proofs.Common.{◌≡◌, ap, ◌∙◌}
-use Rattle.archive.specs.Bytes.{rounds_in}
+use Rattle.std.proofs.Common.{ap, ◌∙◌}
 use Rattle.archive.specs.Reading.{card_with, places_of, card_in}
 use Rattle.archive.proofs.fill.card_in.Goals as goal
 

@@ -1,4 +1,4 @@
-use Rattle.std.proofs.Common.{◌≡◌, ◌<◌, sym, refl, ap, ◌∙◌, arith}
+use Rattle.std.proofs.Common.{◌<◌, arith}
 use Rattle.archive.proofs.Forth.{forth, once}
 use Rattle.archive.proofs.Rests.{starts}
 use Rattle.archive.proofs.Back.{back}

@@ -1,10 +1,10 @@
-use Rattle.std.proofs.Common.{◌≡◌, true, false, eqb, sym, refl, ap, ◌∙◌, rules}
+use Rattle.std.proofs.Common.{◌≡◌, true, false, eqb, sym, ap, ◌∙◌}
 use Rattle.std.proofs.lemmas.Bool.{eq-eqb, ne_eqb}
-use Rattle.machine.specs.declared.types.Cell.TheVariants.{Free, Used}
+use Rattle.machine.specs.declared.types.Cell.TheVariants.{Used}
 use Rattle.machine.specs.declared.types.Colour.TheVariants.{Zero}
 use Rattle.machine.specs.World.{newborn}
 use Rattle.archive.specs.Bytes.{serial_in}
-use Rattle.archive.specs.Reading.{cell_in, links_of}
+use Rattle.archive.specs.Reading.{cell_in}
 use Rattle.archive.proofs.look.cell_in.Goals as goal
 
 pub returns-then-serial-eq0 : goal.returns-then-serial-eq0

@@ -1,4 +1,4 @@
-use Rattle.std.proofs.Common.{◌≡◌, ◌+◌, ◌≤◌, length, drop, sym, refl, ap, ◌∙◌, add-one, arith, rules}
+use Rattle.std.proofs.Common.{◌≤◌, length, drop, sym, ap, ◌∙◌, add-one, arith}
 use Rattle.store.specs.World.{world}
 use Rattle.std.specs.List.{slice_get}
 use Rattle.archive.specs.Layout.{after}

@@ -1,4 +1,4 @@
-use Rattle.std.proofs.Common.{◌≡◌, ℕ, List, length, get_or, Some, sym, refl, ap, ◌∙◌, rules}
+use Rattle.std.proofs.Common.{◌≡◌, length, get_or, Some, sym, refl, ap, ◌∙◌, rules}
 use Rattle.std.specs.List.{slice_get}
 use Rattle.machine.specs.declared.types.Cell.TheVariants.{Free, Used}
 use Rattle.store.specs.World.{world}
@@ -15,7 +15,7 @@ returns-in-Free g c =
     let e = c.cells-cells.ensures in
     let a : at w k ≡ Free = ap (λ h. get_or h k Free) (sym e) ∙ c.in-Free.is in
     let n : c.after-next.result ≡ after w.free k = search rules in
-    c.write-free.ensures ∙ ap free_bytes (c.told-free.ensures ∙ ap (λ h. told_free (length h) c.after-next.result) e ∙ ap (told_free (length w.cells)) n) ∙ cell_free g.C.Contents.form w k a
+    c.write_free.ensures ∙ ap free_bytes (c.told_free.ensures ∙ ap (λ h. told_free (length h) c.after-next.result) e ∙ ap (told_free (length w.cells)) n) ∙ cell_free g.C.Contents.form w k a
 
 pub returns-in-Used : goal.returns-in-Used
 returns-in-Used g c =
@@ -25,7 +25,7 @@ returns-in-Used g c =
     let x = c.index-contents-k.result in
     let e = c.cells-cells.ensures in
     let a : at w k ≡ Used r = ap (λ h. get_or h k Free) (sym e) ∙ c.in-Used.is in
-    let l : c.link-bytes-links.result ≡ link_bytes w.cells r.links = c.link-bytes-links.ensures ∙ ap (λ h. link_bytes h r.links) e in
+    let l : c.link_bytes-links.result ≡ link_bytes w.cells r.links = c.link_bytes-links.ensures ∙ ap (λ h. link_bytes h r.links) e in
     let n : slice_get w.contents k ≡ Some x = ap (λ t. slice_get t k) (sym c.contents.ensures) ∙ slice_get_read _ _ k x refl (search rules) c.index-contents-k.is in
-    c.write-record.ensures ∙ ap (λ f. record_bytes r.serial f c.link-bytes-links.result) c.form-form.ensures ∙ ap (record_bytes r.serial (g.C.Contents.form x)) l
+    c.write_record.ensures ∙ ap (λ f. record_bytes r.serial f c.link_bytes-links.result) c.form-form.ensures ∙ ap (record_bytes r.serial (g.C.Contents.form x)) l
     ∙ cell_used g.C.Contents.form w k r x a n

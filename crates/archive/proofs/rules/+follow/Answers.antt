@@ -1,5 +1,5 @@
-use Rattle.std.proofs.Common.{◌≡◌, ◌-◌, Some, None, sym, refl, ap, ◌∙◌}
-use Rattle.archive.specs.Bytes.{free_in, next_in, link_in, unname}
+use Rattle.std.proofs.Common.{◌-◌, sym, ap, ◌∙◌}
+use Rattle.archive.specs.Bytes.{free_in, next_in, unname}
 use Rattle.archive.specs.Rules.{follows}
 use Rattle.archive.proofs.Steps.{follows_out, follows_none, follows_not, follows_more, free_yes, free_not, free_past}
 use Rattle.archive.proofs.rules.+follow.Goals as goal

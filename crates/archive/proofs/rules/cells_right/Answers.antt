@@ -9,10 +9,10 @@ loop-k-init g c = every_zero (cell_right g.C.Contents.read c.args.bytes.now c.ar
 
 pub returns-then-not-cell_right : goal.returns-then-not-cell_right
 returns-then-not-cell_right g c =
-    sym (every_stop (cell_right g.C.Contents.read c.args.bytes.now c.args.n) c.loop-k.k c.args.n c.loop-k-test.true (sym c.if-not-cell-right.ensures))
+    sym (every_stop (cell_right g.C.Contents.read c.args.bytes.now c.args.n) c.loop-k.k c.args.n c.loop-k-test.true (sym c.if-not-cell_right.ensures))
 
 pub loop-k-preserved : goal.loop-k-preserved
-loop-k-preserved g c = every_more (cell_right g.C.Contents.read c.args.bytes.now c.args.n) c.loop-k.k c.loop-k.invariant (sym c.if-not-cell-right.ensures)
+loop-k-preserved g c = every_more (cell_right g.C.Contents.read c.args.bytes.now c.args.n) c.loop-k.k c.loop-k.invariant (sym c.if-not-cell_right.ensures)
 
 pub returns : goal.returns
 returns g c =

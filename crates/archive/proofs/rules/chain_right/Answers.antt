@@ -1,5 +1,5 @@
-use Rattle.std.proofs.Common.{◌≡◌, ap, ◌∙◌}
-use Rattle.archive.specs.Bytes.{next_in, free_in, first_in, unname}
+use Rattle.std.proofs.Common.{ap, ◌∙◌}
+use Rattle.archive.specs.Bytes.{next_in, free_in, unname}
 use Rattle.archive.specs.Rules.{follows, count_free, chain_right}
 use Rattle.archive.proofs.rules.chain_right.Goals as goal
 

@@ -1,4 +1,4 @@
-use Rattle.std.proofs.Common.{◌≡◌, ℕ, ◌≤◌}
+use Rattle.std.proofs.Common.{◌≡◌, ◌≤◌}
 use Rattle.archive.specs.Bytes.{free_in}
 use Rattle.archive.specs.Rules.{count_free}
 use Rattle.archive.proofs.rules.count_free.Given as goal

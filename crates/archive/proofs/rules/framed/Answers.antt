@@ -1,5 +1,5 @@
-use Rattle.std.proofs.Common.{◌≡◌, ◌-◌, length, take, drop, sym, refl, ap, ◌∙◌, arith, rules}
-use Rattle.std.proofs.lemmas.List.{get_or-drop, take_rest, take_all, length-drop}
+use Rattle.std.proofs.Common.{◌≡◌, ◌-◌, length, take, drop, sym, ap, ◌∙◌, rules}
+use Rattle.std.proofs.lemmas.List.{get_or-drop, take_rest}
 use Rattle.octets.specs.Numbers.{un16}
 use Rattle.archive.specs.Rules.{is_blank}
 use Rattle.archive.proofs.Tests.{frame_number, frame_count, frame_is}

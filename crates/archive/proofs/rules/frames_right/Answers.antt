@@ -1,4 +1,4 @@
-use Rattle.std.proofs.Common.{◌≡◌, ℕ, ◌+◌, ◌-◌, ◌*◌, ◌/◌, Bool, true, false, cond, List, length, take, drop, sym, ap, ◌∙◌, arith, rules}
+use Rattle.std.proofs.Common.{◌≡◌, ℕ, ◌+◌, ◌-◌, ◌*◌, ◌/◌, Bool, true, false, cond, List, take, drop, sym, ap, ◌∙◌, arith}
 use Rattle.archive.specs.Runs.{every}
 use Rattle.archive.specs.Layout.{part_of}
 use Rattle.archive.specs.Bytes.{cells_in, cards_in}

@@ -1,5 +1,4 @@
-use Rattle.std.proofs.Common.{◌≡◌, ◌-◌, true, false, cond, not, eqb, sym, refl, ap, ◌∙◌, rules}
-use Rattle.archive.specs.Bytes.{serial_in}
+use Rattle.std.proofs.Common.{not, eqb, ap, ◌∙◌}
 use Rattle.archive.proofs.Tests.{name_none, name_past, name_is}
 use Rattle.archive.proofs.rules.name_right.Goals as goal
 

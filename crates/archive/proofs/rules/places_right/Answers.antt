@@ -1,4 +1,4 @@
-use Rattle.std.proofs.Common.{◌≡◌, ℕ, Bool, sym, ap, ◌∙◌, arith}
+use Rattle.std.proofs.Common.{◌≡◌, sym, ap, ◌∙◌, arith}
 use Rattle.archive.specs.Runs.{every}
 use Rattle.archive.specs.Bytes.{place_in}
 use Rattle.archive.specs.Rules.{name_right}

@@ -1,4 +1,4 @@
-use Rattle.std.proofs.Common.{◌≡◌, sym, ap, ◌∙◌, arith}
+use Rattle.std.proofs.Common.{sym, ◌∙◌, arith}
 use Rattle.archive.specs.Bytes.{serial_in}
 use Rattle.archive.proofs.Serials.{distinct_no, hit_yes}
 use Rattle.archive.proofs.rules.share.Goals as goal

@@ -1,5 +1,4 @@
-use Rattle.std.proofs.Common.{◌≡◌, ◌+◌, ◌/◌, length, ap, ◌∙◌, arith, rules}
-use Rattle.store.specs.World.{world}
+use Rattle.std.proofs.Common.{arith, rules}
 use Rattle.archive.proofs.Heads.{few_cards}
 use Rattle.archive.proofs.write.blocks_of.Goals as goal
 

@@ -1,4 +1,4 @@
-use Rattle.std.proofs.Common.{◌≡◌, ℕ, ◌+◌, ◌*◌, List, length, take, sym, refl, ap, ◌∙◌, arith, rules}
+use Rattle.std.proofs.Common.{◌≡◌, ℕ, ◌+◌, ◌*◌, List, take, sym, ap, ◌∙◌, arith, rules}
 use Rattle.store.specs.World.{world}
 use Rattle.octets.proofs.Filled.{put_next}
 use Rattle.archive.specs.Runs.{run}
@@ -12,7 +12,7 @@ loop-j-init g c = sym (run_none (λ j. cell_bytes g.C.Contents.form (world c.arg
 pub loop-j-preserved : goal.loop-j-preserved
 loop-j-preserved g c =
     let f : ℕ → List ℕ = λ j. cell_bytes g.C.Contents.form (world c.args.store.now) (c.args.from + j) in
-    put_next (28 * c.loop-j.j) _ (28 * (c.loop-j.j + 1)) c.loop-j.body c.write-cell.new.out c.loop-j.invariant c.write-cell.ensures (search rules) (search rules)
+    put_next (28 * c.loop-j.j) _ (28 * (c.loop-j.j + 1)) c.loop-j.body c.write_cell.new.out c.loop-j.invariant c.write_cell.ensures (search rules) (search rules)
     ∙ run_more f c.loop-j.j
 
 pub returns : goal.returns

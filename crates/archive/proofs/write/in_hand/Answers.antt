@@ -1,4 +1,4 @@
-use Rattle.std.proofs.Common.{sym, rules}
+use Rattle.std.proofs.Common.{sym}
 use Rattle.archive.proofs.Heads.{hand_yes, hand_no, hand_end}
 use Rattle.archive.proofs.write.in_hand.Goals as goal
 

@@ -1,4 +1,4 @@
-use Rattle.std.proofs.Common.{◌≡◌, ℕ, ◌+◌, ◌-◌, ◌*◌, ◌/◌, List, length, take, sym, refl, ap, ◌∙◌, arith, rules}
+use Rattle.std.proofs.Common.{◌≡◌, ℕ, ◌+◌, ◌*◌, List, length, ap, ◌∙◌, arith, rules}
 use Rattle.std.proofs.lemmas.List.{take_at}
 use Rattle.store.specs.World.{world}
 use Rattle.octets.proofs.Filled.{put_next, full}
@@ -10,13 +10,13 @@ use Rattle.archive.proofs.write.write_blocks.Goals as goal
 pub loop-b-init : goal.loop-b-init
 loop-b-init g c =
     let f : ℕ → List ℕ = archive_block g.C.Contents.number g.C.Contents.form (world c.args.store.now) in
-    take_at c.write-head.new.out _ 512 (search rules) ∙ c.write-head.ensures ∙ run_one f
+    take_at c.write_head.new.out _ 512 (search rules) ∙ c.write_head.ensures ∙ run_one f
 
 pub loop-b-preserved : goal.loop-b-preserved
 loop-b-preserved g c =
     let f : ℕ → List ℕ = archive_block g.C.Contents.number g.C.Contents.form (world c.args.store.now) in
     let b = c.loop-b.b in
-    put_next (512 + 512 * b) _ (512 + 512 * (b + 1)) c.loop-b.out c.write-cells.new.out c.loop-b.invariant c.write-cells.ensures (search rules) (search rules)
+    put_next (512 + 512 * b) _ (512 + 512 * (b + 1)) c.loop-b.out c.write_cells.new.out c.loop-b.invariant c.write_cells.ensures (search rules) (search rules)
     ∙ run_more f (b + 1)
 
 pub returns : goal.returns
