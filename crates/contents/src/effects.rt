@@ -3,7 +3,7 @@ ghost use Rattle.std.specs.Option.{ok_or};
 ghost use Rattle.refusal.specs.declared.kinds.Refusal.TheVariants.{OutOfRange};
 ghost use Rattle.contents.specs.Effects.{effect_code, effect_of, effect_form, effect_read, effect_text};
 ghost use Rattle.contents.specs.EffectLaws;
-ghost use Rattle.std.proofs.Common.{rules, arith};
+ghost use Rattle.std.proofs.Common.{rules};
 
 use crate::effect::Effect;
 use crate::form::{Contents, same_form};
@@ -38,7 +38,7 @@ impl Contents for Effect {
 
     ghost read = { effect_read };
 
-    ghost sixteen = { first_of (Prim.search rules, Prim.grind (arith, Self.row.coded.inj)) };
+    ghost sixteen = { Prim.search rules };
 
     ghost back = { EffectLaws.back };
 

@@ -3,7 +3,7 @@ ghost use Rattle.std.specs.Option.{ok_or};
 ghost use Rattle.refusal.specs.declared.kinds.Refusal.TheVariants.{OutOfRange};
 ghost use Rattle.contents.specs.Events.{event_code, event_of, event_form, event_read, event_text};
 ghost use Rattle.contents.specs.EventLaws;
-ghost use Rattle.std.proofs.Common.{rules, arith};
+ghost use Rattle.std.proofs.Common.{rules};
 
 use crate::event::Event;
 use crate::form::{Contents, same_form};
@@ -47,7 +47,7 @@ impl Contents for Event {
 
     ghost read = { event_read };
 
-    ghost sixteen = { first_of (Prim.search rules, Prim.grind (arith, Self.row.coded.inj)) };
+    ghost sixteen = { Prim.search rules };
 
     ghost back = { EventLaws.back };
 

@@ -41,8 +41,8 @@ module _ {A : Type 0} (read : A → List ℕ) (e : A) (row : List A) (c : ℕ) (
   taking got h false f g = record { given = tt; along = λ d x m. m; across = λ d x m. m }
 
 -- a slot that was filled or emptied
-pub slot-filled : (n x : ℕ) (P : Type 0) → Among x (waiting_in (Some n)) → P ⊎ (x ≡ n)
-slot-filled n x P m = ⊎_elim inr (λ z. absurd z) m
+pub slot_filled : (n x : ℕ) (P : Type 0) → Among x (waiting_in (Some n)) → P ⊎ (x ≡ n)
+slot_filled n x P m = ⊎_elim inr (λ z. absurd z) m
 
 pub slot-first : (o : Option ℕ) → Delivered o (waiting_in o)
 slot-first None = tt

@@ -8,4 +8,4 @@ pub returns-then-not-ordering : goal.returns-then-not-ordering
 returns-then-not-ordering g c = record { answers = search rules; line = refl }
 
 pub returns : goal.returns
-returns g c = record { answers = search rules; line = c.send.ensures }
+returns g c = record { answers = search rules; line = search rules }
