@@ -4,14 +4,14 @@
 
 mod fill;
 mod found;
-mod laws;
 mod look;
 mod parts;
 mod read;
 mod reading;
 mod rules;
+mod theorems;
 mod write;
 
-pub use laws::{archive_laws, reached_is_good};
 pub use reading::Reading;
+pub use theorems::{archive_laws, reached_is_good};
 pub use write::{blocks_of, write_archive};

@@ -1,5 +1,5 @@
 -- The endless store: links and places hold serials, nothing is ever freed, and there are no colours, marks, switches or drafts.
-use Rattle.std.specs.Prelude.{ℕ, suc, ◌+◌, Bool, true, false, cond, List, [], ◌∷◌, length, is_some, Some, None, Option, ◌==◌, nat_eq, nat_le, nat_lt}
+use Rattle.std.specs.Prelude.{ℕ, suc, ◌+◌, Bool, true, false, cond, List, [], ◌∷◌, length, is_some, Some, None, Option, ◌==◌, nat_le, nat_lt}
 use Rattle.std.specs.List.{slice_get}
 use Rattle.machine.specs.declared.types.Cell.{Cell}
 use Rattle.machine.specs.declared.types.Stage.{Stage}
@@ -41,7 +41,7 @@ serial_name w (Some x) = see (λ r. Some r.serial) None (at w x)
 -- the first cell that holds serial s, or past the table
 unfoldable pub cell_of : List Cell → ℕ → ℕ
 cell_of [] s = 0
-cell_of (c ∷ h) s = cond (see (λ r. nat_eq r.serial s) false c) 0 (suc (cell_of h s))
+cell_of (c ∷ h) s = cond (see (λ r. r.serial == s) false c) 0 (suc (cell_of h s))
 
 -- whether an update in hand was noted
 abbrev pub is_noted : Stage → Bool

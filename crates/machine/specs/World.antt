@@ -1,6 +1,6 @@
 -- The store as the specs see it: what it holds, what is read of it, and the few ways in which it changes.
 -- Links and places are lists of any length; a name past the table, or of a free cell, is read as empty.
-use Rattle.std.specs.Prelude.{ℕ, zero, suc, ◌+◌, ◌-◌, ◌*◌, Bool, true, false, List, [], ◌∷◌, get_or, replicate, is_some, Some, None, Option, slice_index_or, slice_set}
+use Rattle.std.specs.Prelude.{ℕ, zero, suc, ◌+◌, ◌-◌, ◌*◌, Bool, true, false, List, [], ◌∷◌, replicate, is_some, Some, None, Option, slice_index_or, slice_set}
 use Rattle.machine.specs.declared.types.Colour.{Colour}
 use Rattle.machine.specs.declared.types.Colour.TheVariants.{Zero, One}
 use Rattle.machine.specs.declared.types.Phase.{Phase}
@@ -72,7 +72,7 @@ abbrev pub links_at : {C : Type 0} → World C → ℕ → List Name
 links_at w x = see (λ r. r.links) [] (at w x)
 
 abbrev pub link : {C : Type 0} → World C → ℕ → ℕ → Name
-link w x i = see (λ r. get_or r.links i None) None (at w x)
+link w x i = see (λ r. slice_index_or r.links i None) None (at w x)
 
 abbrev pub colour_at : {C : Type 0} → World C → ℕ → Colour
 colour_at w x = see (λ r. r.colour) w.marked (at w x)
@@ -96,7 +96,7 @@ abbrev pub view_at : {C : Type 0} → World C → ℕ → List Name
 view_at w x = see view_of [] (at w x)
 
 abbrev pub view : {C : Type 0} → World C → ℕ → ℕ → Name
-view w x i = see (λ r. get_or (view_of r) i None) None (at w x)
+view w x i = see (λ r. slice_index_or (view_of r) i None) None (at w x)
 
 -- ---- names
 

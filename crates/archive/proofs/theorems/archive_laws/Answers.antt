@@ -2,7 +2,7 @@ use Rattle.std.proofs.Common.{◌<◌, arith}
 use Rattle.archive.proofs.Forth.{forth, once}
 use Rattle.archive.proofs.Rests.{starts}
 use Rattle.archive.proofs.Back.{back}
-use Rattle.archive.proofs.laws.archive_laws.Goals as goal
+use Rattle.archive.proofs.theorems.archive_laws.Goals as goal
 
 pub returns : goal.returns
 returns g c =
