@@ -3,7 +3,7 @@
 
   python3 tools/compare_play.py MODEL [--scripts N] [--calls N] [--seed N] [--panel PROGRAM]
 
-MODEL is the folder that has the model's play.py. The program is target/bin/panel unless another is given.
+MODEL is the folder that has the model's play.py. The program is crates/panel/out/panel unless another is given.
 A script that shows a difference is kept as /tmp/compare_play.script.
 """
 import argparse
@@ -225,7 +225,7 @@ def main():
     take.add_argument('--scripts', type=int, default=200)
     take.add_argument('--calls', type=int, default=400)
     take.add_argument('--seed', type=int, default=1)
-    take.add_argument('--panel', default=str(here / 'target/bin/panel'))
+    take.add_argument('--panel', default=str(here / 'crates/panel/out/panel'))
     take.add_argument('--count', action='store_true', help='only plays the model, and says how much the scripts reach')
     args = take.parse_args()
     model = [sys.executable, str(pathlib.Path(args.model) / 'play.py')]

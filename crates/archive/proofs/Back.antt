@@ -148,7 +148,7 @@ module _ {C : Type 0} (code : ℕ) (form : C → List ℕ) (read : List ℕ → 
       let x = nth_some w.contents k (omega (arith, G.tables)) in
       let lo = G.above k u in
       let hi = G.below k u in
-      let top = G.next-most in
+      let top = G.next_most in
       inr (record {
         rec = r;
         val = x.0;
@@ -302,8 +302,8 @@ module _ {C : Type 0} (code : ℕ) (form : C → List ℕ) (read : List ℕ → 
       let c = sym (cards_read code form sixteen small w G) in
       let s = G.some in
       let t = G.most in
-      let u = G.card-some in
-      let v = G.card-most in
+      let u = G.card_some in
+      let v = G.card_most in
       let x = G.next in
       let y = G.rounds in
       let p = next_read code form sixteen small w G in

@@ -65,7 +65,7 @@ module _ {C : Type 0} (code : ℕ) (form : C → List ℕ) (sixteen : (x : C) �
   most = G.most
 
   few : m ≤ 8
-  few = G.card-most
+  few = G.card_most
 
   cell_long : (k : ℕ) → length (cell_bytes form w k) ≡ 28
   unfolding cell_bytes
@@ -135,7 +135,7 @@ module _ {C : Type 0} (code : ℕ) (form : C → List ℕ) (sixteen : (x : C) �
   code_read = two_read 10 code bs small (part_of_lem 4 18 6 2 10 bs (front_bytes n m code w.next w.rounds first) front_at (omega arith) refl)
 
   pub next_read : next_serial_in bs ≡ w.next
-  next_read = four_read 12 w.next bs G.next-most (part_of_lem 4 18 8 4 12 bs (front_bytes n m code w.next w.rounds first) front_at (omega arith) refl)
+  next_read = four_read 12 w.next bs G.next_most (part_of_lem 4 18 8 4 12 bs (front_bytes n m code w.next w.rounds first) front_at (omega arith) refl)
 
   pub rounds_read : rounds_in bs ≡ w.rounds
   rounds_read = four_read 16 w.rounds bs (omega (arith, G.rounds)) (part_of_lem 4 18 12 4 16 bs (front_bytes n m code w.next w.rounds first) front_at (omega arith) refl)

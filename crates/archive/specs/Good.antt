@@ -13,8 +13,8 @@ use Rattle.archive.specs.Reading.{filled, card_with, rest_with}
 -- the sizes that the types of a store give
 pub record Sizes {C : Type 0} (w : World C) : Type 0 where
   pub most : length w.cells ≤ 4096
-  pub card-most : length w.cards ≤ 8
-  pub next-most : w.next < 4294967296
+  pub card_most : length w.cards ≤ 8
+  pub next_most : w.next < 4294967296
   pub rounds : w.rounds ≤ 1073741823
 
 pub record Good {C : Type 0} (w : World C) : Type 0 where
@@ -22,13 +22,13 @@ pub record Good {C : Type 0} (w : World C) : Type 0 where
   pub some : 1 ≤ length w.cells
   pub most : length w.cells ≤ 4096
   pub tables : length w.contents ≡ length w.cells
-  pub card-some : 1 ≤ length w.cards
-  pub card-most : length w.cards ≤ 8
+  pub card_some : 1 ≤ length w.cards
+  pub card_most : length w.cards ≤ 8
   pub eight : (c : ℕ) → c < length w.cards → length (card w c).places ≡ 8
   pub four : (x : ℕ) → used w x ≡ true → length (links_at w x) ≡ 4
   -- numbers
   pub next : 2 ≤ w.next
-  pub next-most : w.next < 4294967296
+  pub next_most : w.next < 4294967296
   pub rounds : w.rounds ≤ 1073741823
   -- the free list: exactly the free cells, once each
   pub free_is : (x : ℕ) → Among x w.free → (x < length w.cells) × (used w x ≡ false)

@@ -8,5 +8,5 @@ returns g c =
     let e = c.next_of-next.ensures in
     record {
       is = search rules;
-      sizes = record { most = s.tables.2; card-most = few_cards s; next-most = omega arith; rounds = omega (arith, s.numbers.2) };
+      sizes = record { most = s.tables.2; card_most = few_cards s; next_most = omega arith; rounds = omega (arith, s.numbers.2) };
     }
