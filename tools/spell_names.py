@@ -5,8 +5,8 @@ usage: tools/spell_names.py        at the top of a checkout, right after the kit
 
 - A type, a fact or a relation is in upper camel case: Every-call-promised becomes EveryCallPromised.
 - Any other definition, lemma, field or constructor is in snake case: viewAt becomes view_at, kept-forth becomes kept_forth.
-- A dash stays where it joins the names of two definitions: alterAt-length becomes alter_at-length.
-- A lemma that would have its definition's name gets _lem: attend-done becomes attend_done_lem, beside attend_done.
+- A dash stays where it joins a definition's name to a word of the library: alterAt-length becomes alter_at-length.
+- A lemma that would have a definition's name gets _lem: attend-done becomes attend_done_lem, beside attend_done.
 - The crate bytes, whose name a library of the kit has, becomes octets.
 
 Functions of src/, files, modules, strings, inputs and outputs keep their names. Where two names would fall together it
@@ -19,13 +19,15 @@ import sys
 
 OLD_CRATE, NEW_CRATE = "bytes", "octets"
 # words of the library that lemmas of this repository speak of
-LIBRARY = {"length", "map", "set", "take", "drop", "replicate", "fold", "sum"}
+LIBRARY = {"at", "length", "map", "take"}
 DECLARATION = re.compile(r"^\s*((?:(?:abbrev|unfoldable|pub|record|data)\s+)*)([^\s:(){}]+)(?:\s+\([^)]*\)|\s+\{[^}]*\})*\s*:(?=\s|$)")
 TOKEN = re.compile(r"[\w'-]+")
 # lemmas whose names would fall together with a definition's, though they differ from it by more than a dash
 BESIDE = {"free_bytes": "free_bytes_lem", "part-of": "part_of_lem"}
 # a definition of one crate and a private lemma of another, which no file sees together
 APART = {"at_rest"}
+# a lemma that the kit's script gave the name of a definition of the same crate, and the files that speak of the lemma alone
+LEMMA, LEMMA_NOW, ITS_FILES = "first_of", "first_of_lem", ("line/specs/Rows.antt", "line/specs/LeakyLineLemmas.antt")
 
 
 def files(top, *endings):
@@ -64,14 +66,14 @@ def respelled(name, words):
     if name[0].isupper():
         return "".join(p[0].upper() + p[1:] for p in parts if p)
     parts = [p if p[:1].isupper() else snake(p) for p in parts]
-    if len(parts) == 2 and all(p in words for p in parts):
+    if len(parts) == 2 and parts[0] in words and parts[1] in LIBRARY and "_".join(parts) not in words:
         return "-".join(parts)
     return "_".join(parts)
 
 
 def table(top):
     names, specs = declared(top)
-    words = {snake(w) for w in specs} | LIBRARY
+    words = {snake(w) for w in specs}
     turned = {}
     defined = {respelled(w, words) for w in specs}
     for name in names:
@@ -161,6 +163,8 @@ def main():
         else:
             new = turn_edit(text, turned)
         new = turn_crate(new)
+        if path.endswith(ITS_FILES):
+            new = re.sub(rf"(?<![\w'-]){LEMMA}(?![\w'-])", LEMMA_NOW, new)
         if new != text:
             with open(path, "w", encoding="utf-8") as f:
                 f.write(new)

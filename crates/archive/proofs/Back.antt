@@ -22,21 +22,21 @@ use Rattle.archive.specs.Laws.{Back}
 use Rattle.archive.proofs.Chains.{Chain, times, one, EachOnce, accepted}
 use Rattle.archive.proofs.Chained.{Of, listed, chain_same}
 use Rattle.archive.proofs.Serials.{distinct_no}
-use Rattle.archive.proofs.Steps.{free_yes, free_not, free-low}
+use Rattle.archive.proofs.Steps.{free_yes, free_not, free_low}
 use Rattle.archive.proofs.Every.{every_all}
 use Rattle.archive.proofs.Tests.{name_none, name_is, cell_blank, cell_full}
 use Rattle.archive.proofs.Runs.{tab_is}
-use Rattle.archive.proofs.Tables.{value_none, value_is, rest-same}
+use Rattle.archive.proofs.Tables.{value_none, value_is, rest_same}
 use Rattle.archive.proofs.Worlds.{cell_in_free, cell_in_used, place_at}
 use Rattle.archive.proofs.Rests.{times_among, among_times}
 use Rattle.archive.proofs.Accepted.{Accepted, accepted_holds}
-use Rattle.archive.proofs.Written.{head_long, body-long, head_block, cells_blocked, bytes_long, chunk_is, cells_read, cards_read, links_read, code_read, next_read, rounds_read, first_read, place_read, free-says, used-says, FreeSays, UsedSays}
+use Rattle.archive.proofs.Written.{head_long, body_long, head_block, cells_blocked, bytes_long, chunk_is, cells_read, cards_read, links_read, code_read, next_read, rounds_read, first_read, place_read, free_says, used_says, FreeSays, UsedSays}
 
 -- names
 
-unname-told : {C : Type 0} (w : World C) (v : Name) → unname (told w.cells v) ≡ named w v
-unname-told w None = refl
-unname-told w (Some y) = here (at w y)
+unname_told : {C : Type 0} (w : World C) (v : Name) → unname (told w.cells v) ≡ named w v
+unname_told w None = refl
+unname_told w (Some y) = here (at w y)
   where
     here : (c : Cell) → unname (see (λ r. y + 1) 0 c) ≡ see (λ r. Some y) None c
     here Free = refl
@@ -45,9 +45,9 @@ unname-told w (Some y) = here (at w y)
         let m : (y + 1) - 1 ≡ y = omega arith in
         rw (t, m)
 
-unname-free : (n : ℕ) (o : Option ℕ) → Of (λ x. x < n) o → unname (told_free n o) ≡ o
-unname-free n None h = refl
-unname-free n (Some x) h =
+unname_free : (n : ℕ) (o : Option ℕ) → Of (λ x. x < n) o → unname (told_free n o) ≡ o
+unname_free n None h = refl
+unname_free n (Some x) h =
     let s : ltb x n ≡ true = lt-ltb x n h in
     let t : eqb (x + 1) 0 ≡ false = ne_eqb (x + 1) 0 (λ e. omega arith) in
     let m : (x + 1) - 1 ≡ x = omega arith in
@@ -141,7 +141,7 @@ module _ {C : Type 0} (code : ℕ) (form : C → List ℕ) (read : List ℕ → 
     pub says : UsedSays code form sixteen small w G k rec val
 
   cell_is : (k : ℕ) → k < n → (c : Cell) → at w k ≡ c → ((at w k ≡ Free) × FreeSays code form sixteen small w G k) ⊎ Here k
-  cell_is k l Free e = inl (e, free-says code form sixteen small w G k l e)
+  cell_is k l Free e = inl (e, free_says code form sixteen small w G k l e)
   cell_is k l (Used r) e =
       let u : used w k ≡ true = ap (see (λ r. true) false) e in
       let s : serial_at w k ≡ r.serial = ap (see (λ r. r.serial) 0) e in
@@ -157,7 +157,7 @@ module _ {C : Type 0} (code : ℕ) (form : C → List ℕ) (read : List ℕ → 
         low = omega arith;
         high = omega arith;
         four = sym (ap (λ c. length (see (λ r. r.links) [] c)) e) ∙ G.four k u;
-        says = used-says code form sixteen small w G k r x.0 l e x.1 (omega arith);
+        says = used_says code form sixteen small w G k r x.0 l e x.1 (omega arith);
       })
 
   cases : (k : ℕ) → k < n → ((at w k ≡ Free) × FreeSays code form sixteen small w G k) ⊎ Here k
@@ -226,12 +226,12 @@ module _ {C : Type 0} (code : ℕ) (form : C → List ℕ) (read : List ℕ → 
   next_is k a =
       let f = G.free_is k a in
       elim (cases k f.0) [
-        | inl p ↦ sym (ap unname p.1.next ∙ unname-free n (after w.free k) (after_of (λ x. x < n) k w.free are_low))
+        | inl p ↦ sym (ap unname p.1.next ∙ unname_free n (after w.free k) (after_of (λ x. x < n) k w.free are_low))
         | inr H ↦ absurd (false≢true (sym f.1 ∙ is_used k H))
       ]
 
   first_is : slice_get w.free 0 ≡ first_in bs
-  first_is = sym (ap unname (first_read code form sixteen small w G) ∙ unname-free n (slice_get w.free 0) (nth_of (λ x. x < n) w.free are_low))
+  first_is = sym (ap unname (first_read code form sixteen small w G) ∙ unname_free n (slice_get w.free 0) (nth_of (λ x. x < n) w.free are_low))
 
   is_chain : Chain (next_in bs) (first_in bs) w.free
   is_chain = subst (λ o. Chain (next_in bs) o w.free) first_is (chain_ext (after w.free) (next_in bs) (slice_get w.free 0) w.free (chain_of w.free G.free_once) next_is)
@@ -257,7 +257,7 @@ module _ {C : Type 0} (code : ℕ) (form : C → List ℕ) (read : List ℕ → 
       ]
 
   chain_ok : follows (next_in bs) (free_in bs n) (count_free (free_in bs n) n) (first_in bs) ≡ true
-  chain_ok = accepted (next_in bs) (free_in bs n) n (free-low bs n) (first_in bs) w.free is_chain each_once
+  chain_ok = accepted (next_in bs) (free_in bs n) n (free_low bs n) (first_in bs) w.free is_chain each_once
 
   -- each rule is kept
 
@@ -282,7 +282,7 @@ module _ {C : Type 0} (code : ℕ) (form : C → List ℕ) (read : List ℕ → 
       ap (λ i. framed (b + 1) (part_of i b) (28 * part_of i b) (chunk bs (b + 1))) (cells_read code form sixteen small w G)
       ∙ ap (λ i. framed i (part_of n b) (28 * part_of n b) (chunk bs i)) (add-one b)
       ∙ ap (framed (suc b) (part_of n b) (28 * part_of n b)) (chunk_is code form sixteen small w G (suc b) (omega arith))
-      ∙ ap (λ i. framed (suc b) (part_of n b) i B) (sym (body-long code form sixteen small w G b)) ∙ (cells_blocked code form sixteen small w G b l).frame
+      ∙ ap (λ i. framed (suc b) (part_of n b) i B) (sym (body_long code form sixteen small w G b)) ∙ (cells_blocked code form sixteen small w G b l).frame
 
   frames_ok : frames_right bs ≡ true
   unfolding frames_right
@@ -337,7 +337,7 @@ module _ {C : Type 0} (code : ℕ) (form : C → List ℕ) (read : List ℕ → 
         | inl p ↦ ap (rested_cell w) p.0 ∙ sym (cell_in_free bs k p.1.serial)
         | inr H ↦
             let ls : List Name = H.rec.links in
-            let name : (i : ℕ) → i < 4 → unname (link_in bs k i) ≡ named w (get_or ls i None) = λ i h. ap unname (H.says.link_is i h) ∙ unname-told w (get_or ls i None) in
+            let name : (i : ℕ) → i < 4 → unname (link_in bs k i) ≡ named w (get_or ls i None) = λ i h. ap unname (H.says.link_is i h) ∙ unname_told w (get_or ls i None) in
             let a = name 0 (omega arith) in
             let b = name 1 (omega arith) in
             let c = name 2 (omega arith) in
@@ -361,8 +361,8 @@ module _ {C : Type 0} (code : ℕ) (form : C → List ℕ) (read : List ℕ → 
             sym (value_is read bs k (not_zero k H)) ∙ ap read H.says.form_is ∙ again H.val ∙ sym H.content ∙ sym (ap (see (λ r. slice_get w.contents k) None) H.cell)
       ]
 
-  contents-same : (old : List C) → filled (value_in read bs) old (cells_in bs) ≡ filled (value_of w) old n
-  contents-same old = ap (filled (value_in read bs) old) (cells_read code form sixteen small w G) ∙ filled_ext (value_in read bs) (value_of w) old n value_same
+  contents_same : (old : List C) → filled (value_in read bs) old (cells_in bs) ≡ filled (value_of w) old n
+  contents_same old = ap (filled (value_in read bs) old) (cells_read code form sixteen small w G) ∙ filled_ext (value_in read bs) (value_of w) old n value_same
 
   places_same : (c : ℕ) → c < m → read_all w (card w c).places ≡ places_of bs c
   places_same c l =
@@ -372,19 +372,19 @@ module _ {C : Type 0} (code : ℕ) (form : C → List ℕ) (read : List ℕ → 
       ext_get_or None (read_all w ps) (places_of bs c) (r ∙ e)
       (λ p h.
       let q : p < 8 = omega arith in
-      read_at w ps p ∙ sym (place_at bs c p q ∙ ap unname (place_read code form sixteen small w G c p l q) ∙ unname-told w (get_or ps p None)))
+      read_at w ps p ∙ sym (place_at bs c p q ∙ ap unname (place_read code form sixteen small w G c p l q) ∙ unname_told w (get_or ps p None)))
 
-  card-same : (c : ℕ) → c < m → rested_card w (card w c) ≡ card_in bs c
+  card_same : (c : ℕ) → c < m → rested_card w (card w c) ≡ card_in bs c
   unfolding card_in
-  card-same c l = ap (λ ps. card_with ps w.rounds) (places_same c l) ∙ ap (card_with (places_of bs c)) (sym (rounds_read code form sixteen small w G))
+  card_same c l = ap (λ ps. card_with ps w.rounds) (places_same c l) ∙ ap (card_with (places_of bs c)) (sym (rounds_read code form sixteen small w G))
 
-  cards-same : tab (card_in bs) (cards_in bs) ≡ map (rested_card w) w.cards
-  cards-same =
+  cards_same : tab (card_in bs) (cards_in bs) ≡ map (rested_card w) w.cards
+  cards_same =
       ap (tab (card_in bs)) (cards_read code form sixteen small w G)
-      ∙ sym (tab_is (card_in bs) m blank_card (map (rested_card w) w.cards) (length-map w.cards (rested_card w)) (λ c l. get_or-map (rested_card w) w.cards c blank_card blank_card l ∙ card-same c l))
+      ∙ sym (tab_is (card_in bs) m blank_card (map (rested_card w) w.cards) (length-map w.cards (rested_card w)) (λ c l. get_or-map (rested_card w) w.cards c blank_card blank_card l ∙ card_same c l))
 
-  free-same : chain_from (next_in bs) (free_in bs (cells_in bs)) (count_free (free_in bs (cells_in bs)) (cells_in bs)) (first_in bs) ≡ w.free
-  free-same =
+  free_same : chain_from (next_in bs) (free_in bs (cells_in bs)) (count_free (free_in bs (cells_in bs)) (cells_in bs)) (first_in bs) ≡ w.free
+  free_same =
       ap (λ i. chain_from (next_in bs) (free_in bs i) (count_free (free_in bs i) i) (first_in bs)) (cells_read code form sixteen small w G)
       ∙ chain_same (next_in bs) (first_in bs) (chain_from (next_in bs) (free_in bs n) (count_free (free_in bs n) n) (first_in bs)) w.free
       (listed (next_in bs) (free_in bs n) (count_free (free_in bs n) n) (first_in bs) chain_ok).0 is_chain
@@ -392,7 +392,7 @@ module _ {C : Type 0} (code : ℕ) (form : C → List ℕ) (read : List ℕ → 
   pub all_same : (old : List C) → world_in read bs old ≡ at_rest w old
   unfolding world_in at_rest
   all_same old =
-      rest-same _ _ _ _ _ _ _ _ _ _ _ _ _ _ cells_same (contents-same old) cards-same free-same
+      rest_same _ _ _ _ _ _ _ _ _ _ _ _ _ _ cells_same (contents_same old) cards_same free_same
       (cards_read code form sixteen small w G) (next_read code form sixteen small w G) (rounds_read code form sixteen small w G)
 
 pub back : {C : Type 0} (code : ℕ) (form : C → List ℕ) (read : List ℕ → Option C) → ((x : C) → length (form x) ≡ 16) → ((x : C) → read (form x) ≡ Some x) → code < 65536 → Back code form read

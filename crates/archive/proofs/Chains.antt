@@ -27,10 +27,10 @@ sum_to f (suc k) = f k + sum_to f k
 abbrev pub one : Bool → ℕ
 one b = cond b 1 0
 
-pub count-sum : (free : ℕ → Bool) (n : ℕ) → count_free free n ≡ sum_to (λ k. one (free k)) n
+pub count_sum : (free : ℕ → Bool) (n : ℕ) → count_free free n ≡ sum_to (λ k. one (free k)) n
 unfolding count_free
-count-sum free zero = refl
-count-sum free (suc k) = ap (λ m. one (free k) + m) (count-sum free k)
+count_sum free zero = refl
+count_sum free (suc k) = ap (λ m. one (free k) + m) (count_sum free k)
 
 sum_add : (f g : ℕ → ℕ) (n : ℕ) → sum_to (λ k. f k + g k) n ≡ sum_to f n + sum_to g n
 sum_add f g zero = refl
@@ -75,10 +75,10 @@ one_sum x (suc k) h =
 
 -- a list of numbers below n is as long as all its numbers' times
 
-pub length-sum : (n : ℕ) (l : List ℕ) → All (λ x. x < n) l → sum_to (λ k. times k l) n ≡ length l
-length-sum n [] h = sum_zero n
-length-sum n (x ∷ l) h =
-    sum_add (λ k. one (eqb x k)) (λ k. times k l) n ∙ omega (arith, one_sum x n h.0, length-sum n l h.1)
+pub length_sum : (n : ℕ) (l : List ℕ) → All (λ x. x < n) l → sum_to (λ k. times k l) n ≡ length l
+length_sum n [] h = sum_zero n
+length_sum n (x ∷ l) h =
+    sum_add (λ k. one (eqb x k)) (λ k. times k l) n ∙ omega (arith, one_sum x n h.0, length_sum n l h.1)
 
 pub times_has : (P : ℕ → Type 0) (k : ℕ) (l : List ℕ) → All P l → 0 < times k l → P k
 times_has P k [] h t = absurd (omega arith)
@@ -173,7 +173,7 @@ module _ (next : ℕ → Option ℕ) where
               | inr z ↦ omega (arith, ap one t)
             ]
           ] in
-          let sums : sum_to (λ k. times k l) n ≡ sum_to (λ k. one (free k)) n = length-sum n l below ∙ r.2 ∙ count-sum free n in (
+          let sums : sum_to (λ k. times k l) n ≡ sum_to (λ k. one (free k)) n = length_sum n l below ∙ r.2 ∙ count_sum free n in (
             l,
             r.1,
             λ k.
@@ -191,5 +191,5 @@ module _ (next : ℕ → Option ℕ) where
           let below : All (λ x. x < n) l = all_times (λ x. x < n) l (λ k t. low k (in-free k t)) in
           let same : (k : ℕ) → k < n → times k l ≡ one (free k) =
           λ k _. elim (cases_Bool (free k)) [ inl e ↦ h k ∙ ap one (both k e ∙ sym e) | inr e ↦ h k ∙ ap one (neither k e ∙ sym e) ] in
-          let len : length l ≡ count_free free n = sym (length-sum n l below) ∙ sum_same (λ k. times k l) (λ k. one (free k)) n same ∙ sym (count-sum free n) in
+          let len : length l ≡ count_free free n = sym (length_sum n l below) ∙ sum_same (λ k. times k l) (λ k. one (free k)) n same ∙ sym (count_sum free n) in
           ap (λ f. follows next free f o) (sym len) ∙ chain_follows o l c a

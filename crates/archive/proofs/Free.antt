@@ -5,7 +5,7 @@ use Rattle.std.proofs.lemmas.Bool.{eq-eqb, ne_eqb}
 use Rattle.std.proofs.lemmas.List.{length-reverse, at_drop_all}
 use Rattle.store.specs.Model.{stack}
 use Rattle.store.specs.World.{world}
-use Rattle.store.proofs.Cells.{spares-most}
+use Rattle.store.proofs.Cells.{spares_most}
 use Rattle.store.specs.declared.whole.Store.{Store}
 use Rattle.archive.specs.Layout.{after}
 
@@ -20,12 +20,12 @@ after_end [] (suc i) k e = refl
 after_end (x ∷ l) zero k e = none_some x (sym e)
 after_end (x ∷ l) (suc i) k e = after_end l i k e
 
-pub after-here : (l : List ℕ) (i x k : ℕ) → Some x ≡ slice_get l i → x ≡ k → after (drop i l) k ≡ slice_get l (suc i)
+pub after_here : (l : List ℕ) (i x k : ℕ) → Some x ≡ slice_get l i → x ≡ k → after (drop i l) k ≡ slice_get l (suc i)
 unfolding after
-after-here [] zero x k e q = none_some x (sym e)
-after-here [] (suc i) x k e q = none_some x (sym e)
-after-here (y ∷ l) zero x k e q = let p : y ≡ k = cc in let t : eqb y k ≡ true = eq-eqb y k p in rw t
-after-here (y ∷ l) (suc i) x k e q = after-here l i x k e q
+after_here [] zero x k e q = none_some x (sym e)
+after_here [] (suc i) x k e q = none_some x (sym e)
+after_here (y ∷ l) zero x k e q = let p : y ≡ k = cc in let t : eqb y k ≡ true = eq-eqb y k p in rw t
+after_here (y ∷ l) (suc i) x k e q = after_here l i x k e q
 
 pub after_on : (l : List ℕ) (i x k : ℕ) → Some x ≡ slice_get l i → (x ≡ k → ⊥) → after (drop i l) k ≡ after (drop (suc i) l) k
 unfolding after
@@ -44,4 +44,4 @@ stack-length v = length-reverse (vec_items v) ∙ sym v.ok.0
 
 -- the free list has no more cells than the store
 pub free_short : {C : Type 0} (s : Store C) → length (world s).free ≤ length (world s).cells
-free_short s = omega (arith, stack-length s.core.free, spares-most (world s).cells, s.numbers.0)
+free_short s = omega (arith, stack-length s.core.free, spares_most (world s).cells, s.numbers.0)

@@ -52,11 +52,11 @@ glue i j s t bs {a} {r} e f q =
     ap (λ x. x ++ r) e ∙ ap (λ x. take i (drop s bs) ++ x) (f ∙ ap (λ k. take j (drop k bs)) q ∙ ap (take j) (sym (drop-drop i s bs))) ∙ sym (take-add i j (drop s bs))
 
 -- bytes cut into parts of one length
-pub run-from : (s : ℕ) (f : ℕ → List ℕ) (bs : List ℕ) (n : ℕ) → ((b : ℕ) → b < n → f b ≡ take s (drop (s * b) bs)) → run f n ≡ take (s * n) bs
+pub run_from : (s : ℕ) (f : ℕ → List ℕ) (bs : List ℕ) (n : ℕ) → ((b : ℕ) → b < n → f b ≡ take s (drop (s * b) bs)) → run f n ≡ take (s * n) bs
 unfolding run
-run-from s f bs zero h = ap (λ k. take k bs) (let z : 0 ≡ s * 0 = omega arith in z)
-run-from s f bs (suc n) h =
-    ap (λ t. t ++ f n) (run-from s f bs n (λ b l. h b (omega arith))) ∙ ap (λ t. take (s * n) bs ++ t) (h n (omega arith))
+run_from s f bs zero h = ap (λ k. take k bs) (let z : 0 ≡ s * 0 = omega arith in z)
+run_from s f bs (suc n) h =
+    ap (λ t. t ++ f n) (run_from s f bs n (λ b l. h b (omega arith))) ∙ ap (λ t. take (s * n) bs ++ t) (h n (omega arith))
     ∙ sym (take-add (s * n) s bs) ∙ ap (λ i. take i bs) (sym (mul-suc s n))
 
 pub run_length : (s : ℕ) (f : ℕ → List ℕ) (n : ℕ) → ((b : ℕ) → b < n → length (f b) ≡ s) → length (run f n) ≡ s * n
@@ -119,11 +119,11 @@ pub part_of_lem : (s m a c t : ℕ) (bs : List ℕ) (F : List ℕ) → take m (d
 part_of_lem s m a c t bs F e h q =
     ap (λ i. take c (drop i bs)) q ∙ ap (take c) (sym (drop-drop a s bs)) ∙ sym (inside a c m (drop s bs) h) ∙ ap (λ t. take c (drop a t)) e
 
-un16-front : (bs : List ℕ) → un16 (take 2 bs) ≡ un16 bs
-un16-front bs = let a = get_or-take 2 bs 0 0 (omega arith) in let b = get_or-take 2 bs 1 0 (omega arith) in omega arith
+un16_front : (bs : List ℕ) → un16 (take 2 bs) ≡ un16 bs
+un16_front bs = let a = get_or-take 2 bs 0 0 (omega arith) in let b = get_or-take 2 bs 1 0 (omega arith) in omega arith
 
-un32-front : (bs : List ℕ) → un32 (take 4 bs) ≡ un32 bs
-un32-front bs =
+un32_front : (bs : List ℕ) → un32 (take 4 bs) ≡ un32 bs
+un32_front bs =
     let a = get_or-take 4 bs 0 0 (omega arith) in
     let b = get_or-take 4 bs 1 0 (omega arith) in
     let c = get_or-take 4 bs 2 0 (omega arith) in
@@ -132,10 +132,10 @@ un32-front bs =
 
 -- a number read where it was written
 pub two_read : (n v : ℕ) (bs : List ℕ) → v < 65536 → take 2 (drop n bs) ≡ le16 v → un16 (drop n bs) ≡ v
-two_read n v bs h e = sym (un16-front (drop n bs)) ∙ ap un16 e ∙ un_le16 v h
+two_read n v bs h e = sym (un16_front (drop n bs)) ∙ ap un16 e ∙ un_le16 v h
 
 pub four_read : (n v : ℕ) (bs : List ℕ) → v < 4294967296 → take 4 (drop n bs) ≡ le32 v → un32 (drop n bs) ≡ v
-four_read n v bs h e = sym (un32-front (drop n bs)) ∙ ap un32 e ∙ un_le32 v h
+four_read n v bs h e = sym (un32_front (drop n bs)) ∙ ap un32 e ∙ un_le32 v h
 
 -- what the block of a body is
 pub record Blocked (b n : ℕ) (body : List ℕ) : Type 0 where

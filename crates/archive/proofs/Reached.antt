@@ -15,15 +15,15 @@ along : {C : Type 0} {w v : World C} {m l : Meaning} {ks : List (Call C)} {rs : 
 along I done = I
 along I (then s r) = along (inv_step I s) r
 
-count-along : {C : Type 0} {w v : World C} {m l : Meaning} {ks : List (Call C)} {rs : List (Answer C)} → Inv w m → Run w m ks rs v l → length v.cards ≡ length w.cards
-count-along I done = refl
-count-along I (then s r) = count-along (inv_step I s) r ∙ (grows (changed I s)).cards
+count_along : {C : Type 0} {w v : World C} {m l : Meaning} {ks : List (Call C)} {rs : List (Answer C)} → Inv w m → Run w m ks rs v l → length v.cards ≡ length w.cards
+count_along I done = refl
+count_along I (then s r) = count_along (inv_step I s) r ∙ (grows (changed I s)).cards
 
 pub reached : (C : Type 0) → Reached C
 reached C w v m l ks rs S r c Z =
     let I = along (inv_start S) r in
     let L = I.lists in
-    let e = count-along (inv_start S) r in
+    let e = count_along (inv_start S) r in
     record {
       some = L.some;
       most = Z.most;

@@ -17,12 +17,12 @@ use Rattle.archive.specs.Laws.{Starts}
 use Rattle.archive.proofs.Chains.{times, one, EachOnce}
 use Rattle.archive.proofs.Chained.{listed, listed_once}
 use Rattle.archive.proofs.Serials.{distinct_means}
-use Rattle.archive.proofs.Steps.{free_yes, free-low}
+use Rattle.archive.proofs.Steps.{free_yes, free_low}
 use Rattle.archive.proofs.Tests.{past, cell_high, cell_full}
 use Rattle.archive.proofs.Every.{every_each}
 use Rattle.archive.proofs.Tables.{filled-length}
 use Rattle.archive.proofs.Forth.{name_tells}
-use Rattle.archive.proofs.Worlds.{cell_in_free, cell_in_used, place_at, world-long, world-count, world-at, world-card}
+use Rattle.archive.proofs.Worlds.{cell_in_free, cell_in_used, place_at, world_long, world_count, world-at, world_card}
 use Rattle.archive.proofs.Accepted.{Accepted, accepted_tells}
 
 -- lists of cells
@@ -84,7 +84,7 @@ module _ {C : Type 0} (code : ℕ) (read : List ℕ → Option C) (bs : List ℕ
   cell_cases : (x : ℕ) → (at w x ≡ Free) ⊎ Full x
   cell_cases x =
       elim (cases_lt x n) [
-        | inr l ↦ inl (get_or_past w.cells x Free (omega (arith, world-long read bs old)))
+        | inr l ↦ inl (get_or_past w.cells x Free (omega (arith, world_long read bs old)))
         | inl l ↦ elim (cases_eq (serial_in bs x) 0) [
           | inl z ↦ inl (world-at read bs old x l ∙ cell_in_free bs x z)
           | inr z ↦ inr (record { low = l; serial = z; here = world-at read bs old x l ∙ cell_in_used bs x z })
@@ -108,8 +108,8 @@ module _ {C : Type 0} (code : ℕ) (read : List ℕ → Option C) (bs : List ℕ
   full x l z = record { low = l; serial = z; here = world-at read bs old x l ∙ cell_in_used bs x z }
 
   -- a right name that is not empty names a record
-  named-used : (v x : ℕ) → name_right bs n v ≡ true → unname v ≡ Some x → used w x ≡ true
-  named-used v x e s =
+  named_used : (v x : ℕ) → name_right bs n v ≡ true → unname v ≡ Some x → used w x ≡ true
+  named_used v x e s =
       elim (cases_eq v 0) [
         | inl z ↦ none_some x (ap (λ b. cond b None (Some (v - 1))) (sym (eq-eqb v 0 z)) ∙ s)
         | inr z ↦
@@ -129,40 +129,40 @@ module _ {C : Type 0} (code : ℕ) (read : List ℕ → Option C) (bs : List ℕ
   link_ok : (k i : ℕ) → k < n → (serial_in bs k ≡ 0 → ⊥) → i < 4 → name_right bs n (link_in bs k i) ≡ true
   link_ok k i l z h = every_each (λ i. name_right bs n (link_in bs k i)) i 4 h (past {t = is_some (read (form_in bs k))} (cell_full read bs n k z (low_serial k l z) ∙ cell_ok k l)).1
 
-  links-used : (y i x : ℕ) → link w y i ≡ Some x → used w x ≡ true
-  links-used y i x e =
+  links_used : (y i x : ℕ) → link w y i ≡ Some x → used w x ≡ true
+  links_used y i x e =
       elim (cell_cases y) [
         | inl p ↦ none_some x (sym (ap (see (λ r. get_or r.links i None) None) p) ∙ e)
         | inr p ↦
             let f : get_or (links_of bs y) i None ≡ Some x = sym (ap (see (λ r. get_or r.links i None) None) p.here) ∙ e in
             elim (link_cases bs y i) [
-              | inl q ↦ named-used (link_in bs y i) x (link_ok y i p.low p.serial q.0) (sym q.1 ∙ f)
+              | inl q ↦ named_used (link_in bs y i) x (link_ok y i p.low p.serial q.0) (sym q.1 ∙ f)
               | inr q ↦ none_some x (sym q ∙ f)
             ]
       ]
 
   card_past : (c : ℕ) → cards_in bs ≤ c → card w c ≡ blank_card
-  card_past c l = get_or_past w.cards c blank_card (omega (arith, world-count read bs old))
+  card_past c l = get_or_past w.cards c blank_card (omega (arith, world_count read bs old))
 
   -- what holds of a blank card and of a card at rest
   each_card : (P : Card → Type 0) → P blank_card → ((ps : List Name) → P (card_with ps (rounds_in bs))) → (c : ℕ) → P (card w c)
   each_card P b h c =
       elim (cases_lt c (cards_in bs)) [
-        | inl l ↦ subst P (sym (world-card read bs old c l)) (h (places_of bs c))
+        | inl l ↦ subst P (sym (world_card read bs old c l)) (h (places_of bs c))
         | inr l ↦ subst P (sym (card_past c l)) b
       ]
 
-  places-used : (c q x : ℕ) → place w c q ≡ Some x → used w x ≡ true
-  places-used c q x e =
+  places_used : (c q x : ℕ) → place w c q ≡ Some x → used w x ≡ true
+  places_used c q x e =
       elim (cases_lt c (cards_in bs)) [
         | inr l ↦ none_some x (sym (ap (λ k. get_or k.places q None) (card_past c l)) ∙ e)
         | inl l ↦
-            let f : get_or (places_of bs c) q None ≡ Some x = sym (ap (λ k. get_or k.places q None) (world-card read bs old c l)) ∙ e in
+            let f : get_or (places_of bs c) q None ≡ Some x = sym (ap (λ k. get_or k.places q None) (world_card read bs old c l)) ∙ e in
             elim (cases_lt q 8) [
               | inr h ↦ none_some x (sym (get_or_past (places_of bs c) q None h) ∙ f)
               | inl h ↦
                   let ok : name_right bs n (place_in bs (8 * c + q)) ≡ true = every_each (λ i. name_right bs n (place_in bs i)) (8 * c + q) (8 * cards_in bs) (omega arith) A.places in
-                  named-used (place_in bs (8 * c + q)) x ok (sym (place_at bs c q h) ∙ f)
+                  named_used (place_in bs (8 * c + q)) x ok (sym (place_at bs c q h) ∙ f)
             ]
       ]
 
@@ -174,18 +174,18 @@ module _ {C : Type 0} (code : ℕ) (read : List ℕ → Option C) (bs : List ℕ
   free = chain_from (next_in bs) (free_in bs n) (count_free (free_in bs n) n) (first_in bs)
 
   each_once : EachOnce (free_in bs n) n free
-  each_once = listed_once (next_in bs) (free_in bs n) n (free-low bs n) (first_in bs) chain_ok
+  each_once = listed_once (next_in bs) (free_in bs n) n (free_low bs n) (first_in bs) chain_ok
 
   free_are : (x : ℕ) → Among x free → (x < length w.cells) × (used w x ≡ false)
   free_are x a =
       let t : free_in bs n x ≡ true = all_among (λ k. free_in bs n k ≡ true) x free (listed (next_in bs) (free_in bs n) (count_free (free_in bs n) n) (first_in bs) chain_ok).1 a in
       let p = and_parts (ltb x n) (eqb (serial_in bs x) 0) t in
       let l : x < n = ltb-true x n p.0 in
-      (omega (arith, world-long read bs old), ap (see (λ r. true) false) (world-at read bs old x l ∙ cell_in_free bs x (eqb-true (serial_in bs x) 0 p.1)))
+      (omega (arith, world_long read bs old), ap (see (λ r. true) false) (world-at read bs old x l ∙ cell_in_free bs x (eqb-true (serial_in bs x) 0 p.1)))
 
   free_there : (x : ℕ) → x < length w.cells → used w x ≡ false → Among x free
   free_there x l u =
-      let h : x < n = omega (arith, world-long read bs old) in
+      let h : x < n = omega (arith, world_long read bs old) in
       elim (cases_eq (serial_in bs x) 0) [
         | inr z ↦ absurd (false≢true (sym u ∙ is_used x (full x h z)))
         | inl z ↦
@@ -222,18 +222,18 @@ module _ {C : Type 0} (code : ℕ) (read : List ℕ → Option C) (bs : List ℕ
     order = refl;
     sweep = refl;
     answered = same_false (cards_in bs);
-    lasts = λ c l. ap (λ k. k.last) (world-card read bs old c (omega (arith, world-count read bs old)));
+    lasts = λ c l. ap (λ k. k.last) (world_card read bs old c (omega (arith, world_count read bs old)));
     births = each_card (λ k. k.birth ≡ Zero) refl (λ _. refl);
     snoop = each_card (λ k. k.snoop ≡ false) refl (λ _. refl);
     logging = each_card (λ k. k.logging ≡ false) refl (λ _. refl);
     updates = each_card (λ k. k.update ≡ None) refl (λ _. refl);
-    some = omega (arith, world-long read bs old, A.limits.some);
-    tables = filled-length _ old n ∙ lo ∙ sym (world-long read bs old);
-    answers = length-replicate (cards_in bs) false ∙ sym (world-count read bs old);
-    eight = λ c l. ap (λ k. length k.places) (world-card read bs old c (omega (arith, world-count read bs old)));
+    some = omega (arith, world_long read bs old, A.limits.some);
+    tables = filled-length _ old n ∙ lo ∙ sym (world_long read bs old);
+    answers = length-replicate (cards_in bs) false ∙ sym (world_count read bs old);
+    eight = λ c l. ap (λ k. length k.places) (world_card read bs old c (omega (arith, world_count read bs old)));
     four = λ x u. ap (λ c. length (see (λ r. r.links) [] c)) (is_full x u).here;
-    links = links-used;
-    places = places-used;
+    links = links_used;
+    places = places_used;
     free_is = free_are;
     free_has = free_there;
     free_once = once_distinct free (λ k. omega (arith, each_once k, not_zero (ltb k n && free_in bs n k)));

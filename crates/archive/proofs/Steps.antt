@@ -13,8 +13,8 @@ free_not bs n k z = let b = ne_eqb (serial_in bs k) 0 z in elim (cases_Bool (ltb
 pub free_past : (bs : List ℕ) (n k : ℕ) → n ≤ k → free_in bs n k ≡ false
 free_past bs n k l = let a = le-ltb k n l in rw a
 
-pub free-low : (bs : List ℕ) (n k : ℕ) → free_in bs n k ≡ true → k < n
-free-low bs n k t = ltb-true k n (and_parts (ltb k n) (eqb (serial_in bs k) 0) t).0
+pub free_low : (bs : List ℕ) (n k : ℕ) → free_in bs n k ≡ true → k < n
+free_low bs n k t = ltb-true k n (and_parts (ltb k n) (eqb (serial_in bs k) 0) t).0
 
 pub count_yes : (free : ℕ → Bool) (k : ℕ) → free k ≡ true → count_free free (k + 1) ≡ count_free free k + 1
 unfolding count_free

@@ -35,10 +35,10 @@ pub value_is : {C : Type 0} (read : List ℕ → Option C) (bs : List ℕ) (k : 
 unfolding value_in
 value_is read bs k h = let t : eqb (serial_in bs k) 0 ≡ false = ne_eqb (serial_in bs k) 0 h in rw t
 
-spares-push : (l : List Cell) (c : Cell) → spares (l ++ c ∷ []) ≡ spares l + spare c
+spares_push : (l : List Cell) (c : Cell) → spares (l ++ c ∷ []) ≡ spares l + spare c
 unfolding spares
-spares-push [] c = omega arith
-spares-push (d ∷ l) c = omega (arith, spares-push l c)
+spares_push [] c = omega arith
+spares_push (d ∷ l) c = omega (arith, spares_push l c)
 
 spare_in : (bs : List ℕ) (n k : ℕ) → k < n → spare (cell_in bs k) ≡ cond (free_in bs n k) 1 0
 unfolding cell_in
@@ -47,12 +47,12 @@ spare_in bs n k l =
     elim (cases_Bool (eqb (serial_in bs k) 0)) [ inl e ↦ rw (t, e) | inr e ↦ rw (t, e) ]
 
 -- as many cells are spare as are free in the bytes
-pub spares-tab : (bs : List ℕ) (n m : ℕ) → m ≤ n → spares (tab (cell_in bs) m) ≡ count_free (free_in bs n) m
+pub spares_tab : (bs : List ℕ) (n m : ℕ) → m ≤ n → spares (tab (cell_in bs) m) ≡ count_free (free_in bs n) m
 unfolding run count_free spares
-spares-tab bs n zero h = refl
-spares-tab bs n (suc m) h = spares-push (tab (cell_in bs) m) (cell_in bs m) ∙ omega (arith, spares-tab bs n m (omega arith), spare_in bs n m (omega arith))
+spares_tab bs n zero h = refl
+spares_tab bs n (suc m) h = spares_push (tab (cell_in bs) m) (cell_in bs m) ∙ omega (arith, spares_tab bs n m (omega arith), spare_in bs n m (omega arith))
 
-pub rest-same : {C : Type 0} (h h' : List Cell) (x x' : List C) (ks ks' : List Card) (f f' : List ℕ) (c c' n n' r r' : ℕ) → h ≡ h' → x ≡ x' → ks ≡ ks' → f ≡ f' → c ≡ c' → n ≡ n' → r ≡ r' → rest_with h x ks f c n r ≡ rest_with h' x' ks' f' c' n' r'
-rest-same h h' x x' ks ks' f f' c c' n n' r r' p q s t u v w =
+pub rest_same : {C : Type 0} (h h' : List Cell) (x x' : List C) (ks ks' : List Card) (f f' : List ℕ) (c c' n n' r r' : ℕ) → h ≡ h' → x ≡ x' → ks ≡ ks' → f ≡ f' → c ≡ c' → n ≡ n' → r ≡ r' → rest_with h x ks f c n r ≡ rest_with h' x' ks' f' c' n' r'
+rest_same h h' x x' ks ks' f f' c c' n n' r r' p q s t u v w =
     ap (λ a. rest_with a x ks f c n r) p ∙ ap (λ a. rest_with h' a ks f c n r) q ∙ ap (λ a. rest_with h' x' a f c n r) s ∙ ap (λ a. rest_with h' x' ks' a c n r) t
     ∙ ap (λ a. rest_with h' x' ks' f' a n r) u ∙ ap (λ a. rest_with h' x' ks' f' c' a r) v ∙ ap (rest_with h' x' ks' f' c' n') w

@@ -123,8 +123,8 @@ limits_hold n c l d k s r h =
     let z : ltb 1073741823 r ≡ false = le-ltb 1073741823 r h.rounds in
     rw (p, q, u, v, w, x, y, z)
 
-pub limits-same : (n c l d k s r n' c' l' d' s' r' : ℕ) → n ≡ n' → c ≡ c' → l ≡ l' → d ≡ d' → s ≡ s' → r ≡ r' → limits n c l d k s r ≡ limits n' c' l' d' k s' r'
-limits-same n c l d k s r n' c' l' d' s' r' p q u v w x =
+pub limits_same : (n c l d k s r n' c' l' d' s' r' : ℕ) → n ≡ n' → c ≡ c' → l ≡ l' → d ≡ d' → s ≡ s' → r ≡ r' → limits n c l d k s r ≡ limits n' c' l' d' k s' r'
+limits_same n c l d k s r n' c' l' d' s' r' p q u v w x =
     ap (λ m. limits m c l d k s r) p ∙ ap (λ m. limits n' m l d k s r) q ∙ ap (λ m. limits n' c' m d k s r) u
     ∙ ap (λ m. limits n' c' l' m k s r) v ∙ ap (λ m. limits n' c' l' d' k m r) w ∙ ap (limits n' c' l' d' k s') x
 

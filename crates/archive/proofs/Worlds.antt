@@ -52,39 +52,39 @@ module _ {C : Type 0} (v : ℕ → Option C) (old : List C) where
       ]
 
 module _ {C : Type 0} (read : List ℕ → Option C) (bs : List ℕ) (old : List C) where
-  pub world-cells : (world_in read bs old).cells ≡ tab (cell_in bs) (cells_in bs)
+  pub world_cells : (world_in read bs old).cells ≡ tab (cell_in bs) (cells_in bs)
   unfolding world_in
-  world-cells = refl
+  world_cells = refl
 
-  pub world-contents : (world_in read bs old).contents ≡ filled (value_in read bs) old (cells_in bs)
+  pub world_contents : (world_in read bs old).contents ≡ filled (value_in read bs) old (cells_in bs)
   unfolding world_in
-  world-contents = refl
+  world_contents = refl
 
-  pub world-cards : (world_in read bs old).cards ≡ tab (card_in bs) (cards_in bs)
+  pub world_cards : (world_in read bs old).cards ≡ tab (card_in bs) (cards_in bs)
   unfolding world_in
-  world-cards = refl
+  world_cards = refl
 
   pub world_free : (world_in read bs old).free ≡ chain_from (next_in bs) (free_in bs (cells_in bs)) (count_free (free_in bs (cells_in bs)) (cells_in bs)) (first_in bs)
   unfolding world_in
   world_free = refl
 
-  pub world-next : (world_in read bs old).next ≡ next_serial_in bs
+  pub world_next : (world_in read bs old).next ≡ next_serial_in bs
   unfolding world_in
-  world-next = refl
+  world_next = refl
 
-  pub world-rounds : (world_in read bs old).rounds ≡ rounds_in bs
+  pub world_rounds : (world_in read bs old).rounds ≡ rounds_in bs
   unfolding world_in
-  world-rounds = refl
+  world_rounds = refl
 
-  pub world-long : length (world_in read bs old).cells ≡ cells_in bs
-  world-long = ap length world-cells ∙ tab-length (cell_in bs) (cells_in bs)
+  pub world_long : length (world_in read bs old).cells ≡ cells_in bs
+  world_long = ap length world_cells ∙ tab-length (cell_in bs) (cells_in bs)
 
-  pub world-count : length (world_in read bs old).cards ≡ cards_in bs
-  world-count = ap length world-cards ∙ tab-length (card_in bs) (cards_in bs)
+  pub world_count : length (world_in read bs old).cards ≡ cards_in bs
+  world_count = ap length world_cards ∙ tab-length (card_in bs) (cards_in bs)
 
   pub world-at : (k : ℕ) → k < cells_in bs → at (world_in read bs old) k ≡ cell_in bs k
-  world-at k l = ap (λ h. get_or h k Free) world-cells ∙ tab-at (cell_in bs) (cells_in bs) k Free l
+  world-at k l = ap (λ h. get_or h k Free) world_cells ∙ tab-at (cell_in bs) (cells_in bs) k Free l
 
-  pub world-card : (c : ℕ) → c < cards_in bs → card (world_in read bs old) c ≡ card_with (places_of bs c) (rounds_in bs)
+  pub world_card : (c : ℕ) → c < cards_in bs → card (world_in read bs old) c ≡ card_with (places_of bs c) (rounds_in bs)
   unfolding card_in
-  world-card c l = ap (λ h. get_or h c blank_card) world-cards ∙ tab-at (card_in bs) (cards_in bs) c blank_card l
+  world_card c l = ap (λ h. get_or h c blank_card) world_cards ∙ tab-at (card_in bs) (cards_in bs) c blank_card l

@@ -17,9 +17,9 @@ use Rattle.archive.specs.Good.{Good}
 use Rattle.archive.proofs.Glue.{inside, run_length, run_at, part_of_lem, two_read, four_read, Blocked, blocked}
 use Rattle.archive.proofs.Cells.{cell_free, cell_used}
 
-pub told-most : (h : List Cell) (v : Name) → told h v ≤ length h
-told-most h None = omega arith
-told-most h (Some x) =
+pub told_most : (h : List Cell) (v : Name) → told h v ≤ length h
+told_most h None = omega arith
+told_most h (Some x) =
     elim (cases_lt x (length h)) [
       | inr l ↦ rw (get_or_past h x Free l) (omega arith)
       | inl l ↦ here (get_or h x Free) l
@@ -29,9 +29,9 @@ told-most h (Some x) =
     here Free l = omega arith
     here (Used r) l = omega arith
 
-pub free-most : (n : ℕ) (v : Name) → told_free n v ≤ n
-free-most n None = omega arith
-free-most n (Some x) =
+pub free_most : (n : ℕ) (v : Name) → told_free n v ≤ n
+free_most n None = omega arith
+free_most n (Some x) =
     elim (cases_lt x n) [
       | inl l ↦ let t : ltb x n ≡ true = lt-ltb x n l in rw t (omega arith)
       | inr l ↦ let t : ltb x n ≡ false = le-ltb x n l in rw t (omega arith)
@@ -75,16 +75,16 @@ module _ {C : Type 0} (code : ℕ) (form : C → List ℕ) (sixteen : (x : C) �
       here Free = refl
       here (Used r) = record_long r.serial (form_of form (slice_get w.contents k)) w.cells r.links (form_long form sixteen (slice_get w.contents k))
 
-  place-long : (c : ℕ) → length (place_bytes w c) ≡ 16
+  place_long : (c : ℕ) → length (place_bytes w c) ≡ 16
   unfolding place_bytes run
-  place-long c = refl
+  place_long c = refl
 
-  places-long : length (run (place_bytes w) m) ≡ 16 * m
-  places-long = run_length 16 (place_bytes w) m (λ c l. place-long c)
+  places_long : length (run (place_bytes w) m) ≡ 16 * m
+  places_long = run_length 16 (place_bytes w) m (λ c l. place_long c)
 
   pub head_long : length (head_bytes code w) ≡ 18 + 16 * m
   unfolding head_bytes front_of
-  head_long = length-append (front_of code w) (run (place_bytes w) m) ∙ omega (arith, places-long)
+  head_long = length-append (front_of code w) (run (place_bytes w) m) ∙ omega (arith, places_long)
 
   pub head_block : Blocked 0 0 (head_bytes code w)
   head_block = blocked 0 0 (head_bytes code w) (omega arith) (omega arith) (omega (arith, head_long, few))
@@ -92,11 +92,11 @@ module _ {C : Type 0} (code : ℕ) (form : C → List ℕ) (sixteen : (x : C) �
   abbrev pub body : ℕ → List ℕ
   body b = run (λ j. cell_bytes form w (18 * b + j)) (part_of n b)
 
-  pub body-long : (b : ℕ) → length (body b) ≡ 28 * part_of n b
-  body-long b = run_length 28 (λ j. cell_bytes form w (18 * b + j)) (part_of n b) (λ j l. cell_long (18 * b + j))
+  pub body_long : (b : ℕ) → length (body b) ≡ 28 * part_of n b
+  body_long b = run_length 28 (λ j. cell_bytes form w (18 * b + j)) (part_of n b) (λ j l. cell_long (18 * b + j))
 
   pub cells_blocked : (b : ℕ) → b < (n + 17) / 18 → Blocked (suc b) (part_of n b) (body b)
-  cells_blocked b l = blocked (suc b) (part_of n b) (body b) (omega (arith, most)) (omega arith) (omega (arith, body-long b))
+  cells_blocked b l = blocked (suc b) (part_of n b) (body b) (omega (arith, most)) (omega arith) (omega (arith, body_long b))
 
   block_long : (b : ℕ) → b < blocks_for n → length (archive_block code form w b) ≡ 512
   block_long zero l = head_block.long
@@ -141,11 +141,11 @@ module _ {C : Type 0} (code : ℕ) (form : C → List ℕ) (sixteen : (x : C) �
   rounds_read = four_read 16 w.rounds bs (omega (arith, G.rounds)) (part_of_lem 4 18 12 4 16 bs (front_bytes n m code w.next w.rounds first) front_at (omega arith) refl)
 
   pub first_read : un16 (drop 20 bs) ≡ first
-  first_read = two_read 20 first bs (omega (arith, most, free-most n (slice_get w.free 0))) (part_of_lem 4 18 16 2 20 bs (front_bytes n m code w.next w.rounds first) front_at (omega arith) refl)
+  first_read = two_read 20 first bs (omega (arith, most, free_most n (slice_get w.free 0))) (part_of_lem 4 18 16 2 20 bs (front_bytes n m code w.next w.rounds first) front_at (omega arith) refl)
 
   places-at : take (16 * m) (drop 22 bs) ≡ run (place_bytes w) m
   unfolding head_bytes front_of
-  places-at = part_of_lem 4 (18 + 16 * m) 18 (16 * m) 22 bs (head_bytes code w) head_at (omega arith) refl ∙ take_all (16 * m) (run (place_bytes w) m) (omega (arith, places-long))
+  places-at = part_of_lem 4 (18 + 16 * m) 18 (16 * m) 22 bs (head_bytes code w) head_at (omega arith) refl ∙ take_all (16 * m) (run (place_bytes w) m) (omega (arith, places_long))
 
   place_part : (c p : ℕ) → p < 8 → take 2 (drop (2 * p) (place_bytes w c)) ≡ le16 (told w.cells (place w c p))
   unfolding place_bytes
@@ -155,8 +155,8 @@ module _ {C : Type 0} (code : ℕ) (form : C → List ℕ) (sixteen : (x : C) �
   unfolding place_in
   place_read c p l h =
       let one : take 16 (drop (22 + 16 * c) bs) ≡ place_bytes w c =
-      part_of_lem 22 (16 * m) (16 * c) 16 (22 + 16 * c) bs (run (place_bytes w) m) places-at (omega arith) refl ∙ run_at 16 (place_bytes w) c m (λ c l. place-long c) l in
-      two_read (22 + 2 * (8 * c + p)) (told w.cells (place w c p)) bs (omega (arith, most, told-most w.cells (place w c p)))
+      part_of_lem 22 (16 * m) (16 * c) 16 (22 + 16 * c) bs (run (place_bytes w) m) places-at (omega arith) refl ∙ run_at 16 (place_bytes w) c m (λ c l. place_long c) l in
+      two_read (22 + 2 * (8 * c + p)) (told w.cells (place w c p)) bs (omega (arith, most, told_most w.cells (place w c p)))
       (part_of_lem (22 + 16 * c) 16 (2 * p) 2 (22 + 2 * (8 * c + p)) bs (place_bytes w c) one (omega arith) (omega arith) ∙ place_part c p h)
 
   pub cell_at : (k : ℕ) → k < n → take 28 (drop (spot k) bs) ≡ cell_bytes form w k
@@ -169,7 +169,7 @@ module _ {C : Type 0} (code : ℕ) (form : C → List ℕ) (sixteen : (x : C) �
       let jp : k % 18 < part_of n (k / 18) = omega arith in
       let p : spot k ≡ 512 * suc (k / 18) + (4 + 28 * (k % 18)) = omega arith in
       let B : List ℕ = block_of (suc b) (part_of n b) (body b) in
-      let in_body : take (28 * part_of n b) (drop 4 B) ≡ body b = ap (λ i. take i (drop 4 B)) (sym (body-long b)) ∙ (cells_blocked b bl).here in
+      let in_body : take (28 * part_of n b) (drop 4 B) ≡ body b = ap (λ i. take i (drop 4 B)) (sym (body_long b)) ∙ (cells_blocked b bl).here in
       ap (λ i. take 28 (drop i bs)) p ∙ ap (take 28) (sym (drop-drop (4 + 28 * j) (512 * suc b) bs))
       ∙ sym (inside (4 + 28 * j) 28 512 (drop (512 * suc b) bs) (omega arith))
       ∙ ap (λ t. take 28 (drop (4 + 28 * j) t)) (chunk_is (suc b) (omega arith))
@@ -184,9 +184,9 @@ module _ {C : Type 0} (code : ℕ) (form : C → List ℕ) (sixteen : (x : C) �
     pub rest : is_blank (rest_in bs k) ≡ true
     pub next : link_in bs k 0 ≡ told_free n (after w.free k)
 
-  pub free-says : (k : ℕ) → k < n → at w k ≡ Free → FreeSays k
+  pub free_says : (k : ℕ) → k < n → at w k ≡ Free → FreeSays k
   unfolding serial_in form_in rest_in link_in
-  free-says k l e =
+  free_says k l e =
       let v : ℕ = told_free n (after w.free k) in
       let h : take 28 (drop (spot k) bs) ≡ free_bytes v = cell_at k l ∙ sym (cell_free form w k e) in
       let s : ℕ = spot k in
@@ -194,7 +194,7 @@ module _ {C : Type 0} (code : ℕ) (form : C → List ℕ) (sixteen : (x : C) �
         serial = four_read s 0 bs (omega arith) (part_of_lem s 28 0 4 s bs (free_bytes v) h (omega arith) (omega arith));
         blank = ap is_blank (part_of_lem s 28 4 16 (s + 4) bs (free_bytes v) h (omega arith) refl) ∙ refl;
         rest = ap is_blank (part_of_lem s 28 22 6 (s + 22) bs (free_bytes v) h (omega arith) refl) ∙ refl;
-        next = two_read (s + 20 + 2 * 0) v bs (omega (arith, most, free-most n (after w.free k))) (part_of_lem s 28 20 2 (s + 20 + 2 * 0) bs (free_bytes v) h (omega arith) (omega arith));
+        next = two_read (s + 20 + 2 * 0) v bs (omega (arith, most, free_most n (after w.free k))) (part_of_lem s 28 20 2 (s + 20 + 2 * 0) bs (free_bytes v) h (omega arith) (omega arith));
       }
 
   -- a cell with a record
@@ -203,9 +203,9 @@ module _ {C : Type 0} (code : ℕ) (form : C → List ℕ) (sixteen : (x : C) �
     pub form_is : form_in bs k ≡ form x
     pub link_is : (i : ℕ) → i < 4 → link_in bs k i ≡ told w.cells (get_or r.links i None)
 
-  pub used-says : (k : ℕ) (r : Record) (x : C) → k < n → at w k ≡ Used r → slice_get w.contents k ≡ Some x → r.serial < 4294967296 → UsedSays k r x
+  pub used_says : (k : ℕ) (r : Record) (x : C) → k < n → at w k ≡ Used r → slice_get w.contents k ≡ Some x → r.serial < 4294967296 → UsedSays k r x
   unfolding serial_in form_in link_in
-  used-says k r x l e q low =
+  used_says k r x l e q low =
       let L : List ℕ = link_bytes w.cells r.links in
       let F : List ℕ = record_bytes r.serial (form x) L in
       let h : take 28 (drop (spot k) bs) ≡ F = cell_at k l ∙ sym (cell_used form w k r x e q) in
@@ -215,7 +215,7 @@ module _ {C : Type 0} (code : ℕ) (form : C → List ℕ) (sixteen : (x : C) �
         serial = four_read s r.serial bs low (part_of_lem s 28 0 4 s bs F h (omega arith) (omega arith));
         form_is = part_of_lem s 28 4 16 (s + 4) bs F h (omega arith) refl ∙ take_at (form x) L 16 (sixteen x);
         link_is = λ i il.
-            two_read (s + 20 + 2 * i) (told w.cells (get_or r.links i None)) bs (omega (arith, most, told-most w.cells (get_or r.links i None)))
+            two_read (s + 20 + 2 * i) (told w.cells (get_or r.links i None)) bs (omega (arith, most, told_most w.cells (get_or r.links i None)))
             (part_of_lem s 28 (20 + 2 * i) 2 (s + 20 + 2 * i) bs F h (omega arith) (omega arith)
             ∙ ap (take 2) (sym (drop-drop (2 * i) 20 F)) ∙ ap (λ t. take 2 (drop (2 * i) t)) past ∙ link_part w.cells r.links i il);
       }

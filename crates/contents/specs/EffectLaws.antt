@@ -7,7 +7,7 @@ use Rattle.octets.specs.Numbers.{un16}
 use Rattle.octets.proofs.Numbers.{un_le16}
 use Rattle.contents.specs.Ranges.{Within, within}
 use Rattle.contents.specs.Effects.{effect_if, effect_of, effect_form, effect_read}
-use Rattle.contents.specs.Readings.{kept_back, kept-forth}
+use Rattle.contents.specs.Readings.{kept_back, kept_forth}
 use Rattle.contents.specs.declared.effect.Effect.{Effect}
 
 abbrev pub mk : (r d : ℕ) → Within 1 64 r → d ≤ 600 → Effect
@@ -40,7 +40,7 @@ module _ (r d : ℕ) where
 
 pub forth : (bs : List ℕ) (x : Effect) → effect_read bs ≡ Some x → effect_form x ≡ bs
 unfolding effect_read
-forth bs x q = kept-forth effect_form bs _ x q
+forth bs x q = kept_forth effect_form bs _ x q
 
 pub back : (x : Effect) → effect_read (effect_form x) ≡ Some x
 unfolding effect_read

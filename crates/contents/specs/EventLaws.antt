@@ -9,7 +9,7 @@ use Rattle.octets.proofs.Numbers.{un_le16, un_le32}
 use Rattle.contents.specs.Ranges.{Within, within}
 use Rattle.contents.specs.Kinds.{kinds, kind_number, first, number_is, kind_numbered}
 use Rattle.contents.specs.Events.{event_if, event_of, event_form, event_read}
-use Rattle.contents.specs.Readings.{kept_back, kept-forth}
+use Rattle.contents.specs.Readings.{kept_back, kept_forth}
 use Rattle.contents.specs.declared.kind.Kind.{Kind}
 use Rattle.contents.specs.declared.kind.Kind.TheVariants.{Fire, Fault, Test, Acknowledged, Silenced, Reset}
 use Rattle.contents.specs.declared.event.Event.{Event}
@@ -82,7 +82,7 @@ module _ (m d z : ℕ) where
 
 pub forth : (bs : List ℕ) (x : Event) → event_read bs ≡ Some x → event_form x ≡ bs
 unfolding event_read
-forth bs x q = kept-forth event_form bs _ x q
+forth bs x q = kept_forth event_form bs _ x q
 
 pub back : (x : Event) → event_read (event_form x) ≡ Some x
 unfolding event_read

@@ -15,9 +15,9 @@ module _ {X : Type 0} (form : X → List ℕ) where
   picked false bs y x h q = never x q
 
   -- a value that was read has those bytes as its form
-  pub kept-forth : (bs : List ℕ) (o : Option X) (x : X) → kept form bs o ≡ Some x → form x ≡ bs
-  kept-forth bs None x q = never x q
-  kept-forth bs (Some y) x q = picked (bytes_eq (form y) bs) bs y x (bytes_eq-Decides (form y) bs).0 q
+  pub kept_forth : (bs : List ℕ) (o : Option X) (x : X) → kept form bs o ≡ Some x → form x ≡ bs
+  kept_forth bs None x q = never x q
+  kept_forth bs (Some y) x q = picked (bytes_eq (form y) bs) bs y x (bytes_eq-Decides (form y) bs).0 q
 
   -- reading a form gives the value, where its fields do
   pub kept_back : (x : X) (o : Option X) → o ≡ Some x → kept form (form x) o ≡ Some x

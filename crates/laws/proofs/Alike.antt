@@ -59,8 +59,8 @@ module _ {C : Type 0} (w : World C) (e : Endless C) (R : Alike w e) (N : Names w
   private_used : used w u.cell ≡ true
   private_used = N.places c (N.update c u U).0 u.cell (N.update c u U).1
 
-  target-used : (x : ℕ) → u.target ≡ Some x → used w x ≡ true
-  target-used x a = N.places c (N.target c u x U a).0 x (N.target c u x U a).1
+  target_used : (x : ℕ) → u.target ≡ Some x → used w x ≡ true
+  target_used x a = N.places c (N.target c u x U a).0 x (N.target c u x U a).1
 
   stored : (z j x : ℕ) → link (store_done w c u (named w u.target)) z j ≡ Some x → (link w z j ≡ Some x) ⊎ (u.target ≡ Some x)
   stored z j x a = grind frame
@@ -70,7 +70,7 @@ module _ {C : Type 0} (w : World C) (e : Endless C) (R : Alike w e) (N : Names w
   store_led (leads_link z j x l a v) =
       elim (stored z j x a) [
         | inl b ↦ leads_link z j x (store_led l) b (grind frame)
-        | inr b ↦ leads_start x (c, (N.target c u x U b).0, (N.target c u x U b).1) (target-used x b)
+        | inr b ↦ leads_start x (c, (N.target c u x U b).0, (N.target c u x U b).1) (target_used x b)
       ]
 
   -- serials stay
@@ -85,21 +85,21 @@ module _ {C : Type 0} (w : World C) (e : Endless C) (R : Alike w e) (N : Names w
   led_used (leads_link z j x l a v) = v
 
   store_links : (x j : ℕ) → Led w x → but2 e.links (serial_at w u.cell) u.link (serial_name w u.target) (serial_at w x) j ≡ serial_name w (link (store_done w c u (named w u.target)) x j)
-  store_links x j l = grind (nat_tests, frame, R.links x j l, L.apart x u.cell (led_used l) private_used, L.four u.cell private_used, target-used (cell_in u.target))
+  store_links x j l = grind (nat_tests, frame, R.links x j l, L.apart x u.cell (led_used l) private_used, L.four u.cell private_used, target_used (cell_in u.target))
 
   same_place : (d r : ℕ) → place (store_done w c u (named w u.target)) d r ≡ place w d r
   same_place d r = grind (arith, alter_card_tells)
 
-  same-intent : (v : Option Update) → intent (store_done w c u (named w u.target)) v ≡ intent w v
-  same-intent None = refl
-  same-intent (Some v) = grind (arith, same_serial v.cell, same_name v.target)
+  same_intent : (v : Option Update) → intent (store_done w c u (named w u.target)) v ≡ intent w v
+  same_intent None = refl
+  same_intent (Some v) = grind (arith, same_serial v.cell, same_name v.target)
 
   pub store_alike : Alike (store_done w c u (named w u.target)) (e_update (e_link e (serial_at w u.cell) u.link (serial_name w u.target)) c None)
   store_alike = record {
     cards = grind (sizes, R.cards);
     next = grind (frame, R.next);
     places = λ d r. R.places d r ∙ sym (same_name (place w d r)) ∙ ap (serial_name (store_done w c u (named w u.target))) (sym (same_place d r));
-    updates = λ d. grind (nat_tests, frame, R.updates d, same-intent (card w d).update);
+    updates = λ d. grind (nat_tests, frame, R.updates d, same_intent (card w d).update);
     links = λ x j l. grind (arith, same_serial x, same_name (link (store_done w c u (named w u.target)) x j), store_links x j (store_led l));
     contents = λ x l. grind (frame, same_serial x, R.contents x (store_led l));
   }

@@ -26,8 +26,8 @@ use Rattle.laws.specs.Words.{says, is_card, is_nine, card_calls, card_answers}
 use Rattle.laws.proofs.Inv.{Inv}
 use Rattle.laws.proofs.Runs.{Lasts}
 use Rattle.laws.proofs.Alike.{Alike, load_alike, store_alike, read_says}
-use Rattle.laws.proofs.Quiet.{quiet_alike, open_still, attend_still, hear_still, trace_still, settle_still, sweep-alike, led_used}
-use Rattle.laws.proofs.Echo.{copy_alike, drop-alike, look_alike, note_alike, new_alike}
+use Rattle.laws.proofs.Quiet.{quiet_alike, open_still, attend_still, hear_still, trace_still, settle_still, sweep_alike, led_used}
+use Rattle.laws.proofs.Echo.{copy_alike, drop_alike, look_alike, note_alike, new_alike}
 
 -- ---- the start
 
@@ -49,8 +49,8 @@ module _ {C : Type 0} (w : World C) (m : Meaning) (I : Inv w m) where
   found : (x : ℕ) → used w x ≡ true → cell_of w.cells (serial_at w x) ≡ x
   found x u = finds w.cells (serial_at w x) x (grind (nat_tests, arith)) (λ y h. I.lists.apart y x (grind (nat_tests, arith)) u (grind (nat_tests, arith)))
 
-  pub image-alike : Alike w (image w)
-  image-alike = record {
+  pub image_alike : Alike w (image w)
+  image_alike = record {
     cards = refl;
     next = refl;
     places = λ c p. refl;
@@ -125,10 +125,10 @@ module _ {C : Type 0} (w : World C) (m : Meaning) (I : Inv w m) (e : Endless C) 
       gate (leb (length w.cards) c) _ (carded c) NoCard refl _ _ (λ a. gate (ltb 7 p) _ refl NoPlace refl _ _ (λ b. gate (ltb 7 q) _ refl NoPlace refl _ _ (λ d. gate (busy w c) _ (handed c) UpdateInHand refl _ _ (λ g.
       inl (refl, ap answers (named_or w (place w c p) ∙ ap serial_or_0 (sym (R.places c p))), copy_alike w m I e R c p q (grind (nat_tests, arith)) (grind (nat_tests, arith)))))))
 
-  drop-goes : (c p : ℕ) → Goes e (answer (drop_call w c p).0) (drop_call w c p).1 (e_drop e c p)
-  drop-goes c p =
+  drop_goes : (c p : ℕ) → Goes e (answer (drop_call w c p).0) (drop_call w c p).1 (e_drop e c p)
+  drop_goes c p =
       gate (leb (length w.cards) c) _ (carded c) NoCard refl _ _ (λ a. gate (ltb 7 p) _ refl NoPlace refl _ _ (λ b. gate (busy w c) _ (handed c) UpdateInHand refl _ _ (λ g.
-      inl (refl, refl, drop-alike w m I e R c p (grind (nat_tests, arith)) (grind (nat_tests, arith))))))
+      inl (refl, refl, drop_alike w m I e R c p (grind (nat_tests, arith)) (grind (nat_tests, arith))))))
 
   look_goes : (c p i q : ℕ) → Goes e (answer (look_call w c p i q).0) (look_call w c p i q).1 (e_look e c p i q)
   look_goes c p i q =
@@ -179,29 +179,29 @@ module _ {C : Type 0} (w : World C) (m : Meaning) (I : Inv w m) (e : Endless C) 
   counts a v r (inl g) = inl (ap not g.0, g.1, g.2)
   counts a v r (inr g) = inr (ap not g.0, g.1)
 
-  act-alike : (k : Call C) (got : Option ℕ) → (((is_card k && not (is_nine (act w k got).0)) ≡ true) × (says (act w k got).0 ≡ (e_act e k).0) × Alike (act w k got).1 (e_act e k).1) ⊎ (((is_card k && not (is_nine (act w k got).0)) ≡ false) × Alike (act w k got).1 e)
-  act-alike (New c p x) got = counts _ _ _ (new_goes c p x)
-  act-alike (Load c p i q) got = counts _ _ _ (load_goes c p i q)
-  act-alike (Copy c p q) got = counts _ _ _ (copy_goes c p q)
-  act-alike (Drop c p) got = counts _ _ _ (drop-goes c p)
-  act-alike (Read c p) got = counts _ _ _ (read_goes c p)
-  act-alike (Look c p i q) got = counts _ _ _ (look_goes c p i q)
-  act-alike (Note c) got = counts _ _ _ (note_goes c)
-  act-alike (Store c) got = counts _ _ _ (store_goes c)
-  act-alike Open got = inr (refl, quiet_alike w _ (open_still w) e R)
-  act-alike (Knock c) got = inr (refl, R)
-  act-alike (Attend c) got = inr (refl, quiet_alike w _ (attend_still w c got) e R)
-  act-alike (Hear c) got = inr (refl, quiet_alike w _ (hear_still w c got) e R)
-  act-alike Trace got = inr (refl, quiet_alike w _ (trace_still w) e R)
-  act-alike Sweep got = inr (refl, sweep-alike w m I e R)
-  act-alike Settle got = inr (refl, quiet_alike w _ (settle_still w) e R)
+  act_alike : (k : Call C) (got : Option ℕ) → (((is_card k && not (is_nine (act w k got).0)) ≡ true) × (says (act w k got).0 ≡ (e_act e k).0) × Alike (act w k got).1 (e_act e k).1) ⊎ (((is_card k && not (is_nine (act w k got).0)) ≡ false) × Alike (act w k got).1 e)
+  act_alike (New c p x) got = counts _ _ _ (new_goes c p x)
+  act_alike (Load c p i q) got = counts _ _ _ (load_goes c p i q)
+  act_alike (Copy c p q) got = counts _ _ _ (copy_goes c p q)
+  act_alike (Drop c p) got = counts _ _ _ (drop_goes c p)
+  act_alike (Read c p) got = counts _ _ _ (read_goes c p)
+  act_alike (Look c p i q) got = counts _ _ _ (look_goes c p i q)
+  act_alike (Note c) got = counts _ _ _ (note_goes c)
+  act_alike (Store c) got = counts _ _ _ (store_goes c)
+  act_alike Open got = inr (refl, quiet_alike w _ (open_still w) e R)
+  act_alike (Knock c) got = inr (refl, R)
+  act_alike (Attend c) got = inr (refl, quiet_alike w _ (attend_still w c got) e R)
+  act_alike (Hear c) got = inr (refl, quiet_alike w _ (hear_still w c got) e R)
+  act_alike Trace got = inr (refl, quiet_alike w _ (trace_still w) e R)
+  act_alike Sweep got = inr (refl, sweep_alike w m I e R)
+  act_alike Settle got = inr (refl, quiet_alike w _ (settle_still w) e R)
 
 -- a step of a run: the call counts, and both sides took it; or it does not count, and the store alone took it
 pub step_alike : {C : Type 0} {w v : World C} {m l : Meaning} {k : Call C} {a : Answer C} → Inv w m → (e : Endless C) → Alike w e → Step w m k a v l → (((is_card k && not (is_nine a)) ≡ true) × (says a ≡ (e_act e k).0) × Alike v (e_act e k).1) ⊎ (((is_card k && not (is_nine a)) ≡ false) × Alike v e)
 step_alike {C} {w} {v} {m} {l} {k} {a} I e R s =
     subst (λ z. (((is_card k && not (is_nine z)) ≡ true) × (says z ≡ (e_act e k).0) × Alike v (e_act e k).1) ⊎ (((is_card k && not (is_nine z)) ≡ false) × Alike v e)) (sym s.answers)
     (subst (λ u. (((is_card k && not (is_nine (act w k s.got).0)) ≡ true) × (says (act w k s.got).0 ≡ (e_act e k).0) × Alike u (e_act e k).1) ⊎ (((is_card k && not (is_nine (act w k s.got).0)) ≡ false) × Alike u e)) (sym s.leaves)
-    (act-alike w m I e R k s.got))
+    (act_alike w m I e R k s.got))
 
 -- ---- runs
 
@@ -214,12 +214,12 @@ passed true e k ks t ts h q = absurd (false≢true (sym h))
 passed false e k ks t ts h q = q
 
 module _ {C : Type 0} (L : Lasts C) where
-  alike-along : {w v : World C} {m l : Meaning} {ks : List (Call C)} {rs : List (Answer C)} → Inv w m → (e : Endless C) → Alike w e → Run w m ks rs v l → card_answers ks rs ≡ e_play e (card_calls ks rs)
-  alike-along I e R done = refl
-  alike-along I e R (then {k = k} {ks = ks} {a = a} {rs = rs} s r) =
+  alike_along : {w v : World C} {m l : Meaning} {ks : List (Call C)} {rs : List (Answer C)} → Inv w m → (e : Endless C) → Alike w e → Run w m ks rs v l → card_answers ks rs ≡ e_play e (card_calls ks rs)
+  alike_along I e R done = refl
+  alike_along I e R (then {k = k} {ks = ks} {a = a} {rs = rs} s r) =
       elim (step_alike I e R s) [
-        | inl g ↦ taken (is_card k && not (is_nine a)) e k (card_calls ks rs) (says a) (card_answers ks rs) g.0 g.1 (alike-along (L.step I s) (e_act e k).1 g.2 r)
-        | inr g ↦ passed (is_card k && not (is_nine a)) e k (card_calls ks rs) (says a) (card_answers ks rs) g.0 (alike-along (L.step I s) e g.1 r)
+        | inl g ↦ taken (is_card k && not (is_nine a)) e k (card_calls ks rs) (says a) (card_answers ks rs) g.0 g.1 (alike_along (L.step I s) (e_act e k).1 g.2 r)
+        | inr g ↦ passed (is_card k && not (is_nine a)) e k (card_calls ks rs) (says a) (card_answers ks rs) g.0 (alike_along (L.step I s) e g.1 r)
       ]
 
   -- (c)
@@ -227,4 +227,4 @@ module _ {C : Type 0} (L : Lasts C) where
       (w v : World C) (m l : Meaning) (ks : List (Call C)) (rs : List (Answer C)) →
       Start w m → Run w m ks rs v l →
       card_answers ks rs ≡ e_play (image w) (card_calls ks rs)
-  alike w v m l ks rs S r = let I : Inv w m = L.start S in alike-along I (image w) (image-alike w m I) r
+  alike w v m l ks rs S r = let I : Inv w m = L.start S in alike_along I (image w) (image_alike w m I) r

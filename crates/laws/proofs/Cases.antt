@@ -139,8 +139,8 @@ module _ {C : Type 0} (w : World C) where
   at_trace : (p : Phase) → eqb (phase_number p) 4 ≡ true → p ≡ ph.Trace
   at_trace p e = grind arith
 
-  at-sweep : (p : Phase) → eqb (phase_number p) 6 ≡ true → p ≡ ph.Sweep
-  at-sweep p e = grind arith
+  at_sweep : (p : Phase) → eqb (phase_number p) 6 ≡ true → p ≡ ph.Sweep
+  at_sweep p e = grind arith
 
   at_settle : (p : Phase) → eqb (phase_number p) 7 ≡ true → p ≡ ph.Settle
   at_settle p e = grind arith
@@ -156,7 +156,7 @@ module _ {C : Type 0} (w : World C) where
       from (k ∷ ks) e h = traces k ks h e
 
   sweep_changes : Change w (sweep_call w).1
-  sweep_changes = allow (eqb (phase_number w.phase) 6) _ _ (λ a. from (at w w.sweep) refl (at-sweep w.phase a))
+  sweep_changes = allow (eqb (phase_number w.phase) 6) _ _ (λ a. from (at w w.sweep) refl (at_sweep w.phase a))
     where
       from : (c : Cell) → at w w.sweep ≡ c → w.phase ≡ ph.Sweep → Change w (sweep_cell w c).1
       from Free e h = keeps h (grind arith)

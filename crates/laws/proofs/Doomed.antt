@@ -18,7 +18,7 @@ use Rattle.machine.specs.Acts.{accepted, answer}
 use Rattle.laws.specs.Leads.{leads_start, leads_link, Led, Holds}
 use Rattle.laws.specs.Steps.{Step, Run, done, then, Start}
 use Rattle.laws.specs.Words.{Unclosed}
-use Rattle.laws.proofs.Frames.{frame, snooped_names-at, view-at}
+use Rattle.laws.proofs.Frames.{frame, snooped_names-at, view_at_lem}
 use Rattle.laws.proofs.Pushes.{push_all_tells}
 use Rattle.laws.proofs.Cases.{Change, same, news, loads, copies, drops, looks, notes, stores, opens, obeys, hears, logs, gathers, leaves, sweeps, traces, eases, keeps, frees, settles, answered_by}
 use Rattle.laws.proofs.Inv.{Inv, turn}
@@ -50,8 +50,8 @@ module _ {C : Type 0} (w : World C) where
   stored_snoops : (c : ℕ) (u : Update) (x : ℕ) → snooped (store_done w c u (named w u.target)) x ≡ true → (snooped w x ≡ true) ⊎ ((u.target ≡ Some x) × (used w x ≡ true))
   stored_snoops c u x h = grind frame
 
-  obeyed-waits : (c n x : ℕ) → wait (obey w c n) x ≡ true → (wait w x ≡ true) ⊎ ((used w x ≡ true) × ((i : ℕ) × (place w c i ≡ Some x)))
-  obeyed-waits c n x h = elim (push_all_tells w.marked (heap w) (card w c).places x) [
+  obeyed_waits : (c n x : ℕ) → wait (obey w c n) x ≡ true → (wait w x ≡ true) ⊎ ((used w x ≡ true) × ((i : ℕ) × (place w c i ≡ Some x)))
+  obeyed_waits c n x h = elim (push_all_tells w.marked (heap w) (card w c).places x) [
     | inl e ↦ inl (grind (frame, e))
     | inr e ↦ inr (grind (frame, e.1), e.2)
   ]
@@ -65,7 +65,7 @@ module _ {C : Type 0} (w : World C) where
   traced_waits : (k : ℕ) (ks : List ℕ) (x : ℕ) → wait (trace_done w k ks) x ≡ true → (wait w x ≡ true) ⊎ ((used w x ≡ true) × ((i : ℕ) × (view w k i ≡ Some x)))
   traced_waits k ks x h = elim (push_all_tells w.marked (heap (trace_mark w k ks)) (view_at w k) x) [
     | inl e ↦ inl (grind (frame, e))
-    | inr e ↦ inr (grind (frame, e.1), (e.2.0, sym (view-at e.2.0 (at w k)) ∙ e.2.1))
+    | inr e ↦ inr (grind (frame, e.1), (e.2.0, sym (view_at_lem e.2.0 (at w k)) ∙ e.2.1))
   ]
 
 module _ {C : Type 0} (D : ℕ → Type 0) (w : World C) (m : Meaning) (I : Inv w m) (G : Doomed D w) where
@@ -198,7 +198,7 @@ module _ {C : Type 0} (D : ℕ → Type 0) (w : World C) (m : Meaning) (I : Inv 
       }
   kept (obeys c n a b d e) =
       let T = push_all_tells w.marked (heap w) (card w c).places in
-      let Q : (x : ℕ) → wait (obey w c n) x ≡ true → (wait w x ≡ true) ⊎ ((used w x ≡ true) × ((i : ℕ) × (place w c i ≡ Some x))) = obeyed-waits w c n in
+      let Q : (x : ℕ) → wait (obey w c n) x ≡ true → (wait w x ≡ true) ⊎ ((used w x ≡ true) × ((i : ℕ) × (place w c i ≡ Some x))) = obeyed_waits w c n in
       record {
         below = G.below;
         places = λ r t x s h k n. G.places r t x s (grind frame) (grind (frame, T x)) (grind (frame, T x));

@@ -43,8 +43,8 @@ module _ {C : Type 0} (w : World C) (m : Meaning) (I : Inv w m) (e : Endless C) 
     drop_led (leads_start x (d, r, a) u) = leads_start x (d, r, grind frame) u
     drop_led (leads_link z j x l a u) = leads_link z j x (drop_led l) a u
 
-    pub drop-alike : Alike (drop_done w c p) (e_place e c p None)
-    drop-alike = record {
+    pub drop_alike : Alike (drop_done w c p) (e_place e c p None)
+    drop_alike = record {
       cards = grind (sizes, R.cards);
       next = R.next;
       places = λ d r. grind (nat_tests, frame, R.places d r, I.lists.eight c K);

@@ -122,13 +122,13 @@ snooped_names-at n [] i = refl
 snooped_names-at n (c ∷ h) zero = rw add-zero
 snooped_names-at n (c ∷ h) (suc i) = let e : suc n + i ≡ n + suc i = omega arith in snooped_names-at (suc n) h i ∙ ap (name_if (see (λ r. r.snooped) false (get_or h i Free))) e
 
-pub view-at : (i : ℕ) (c : Cell) → get_or (see view_of [] c) i None ≡ see (λ r. get_or (view_of r) i None) None c
-view-at i Free = refl
-view-at i (Used r) = refl
+pub view_at_lem : (i : ℕ) (c : Cell) → get_or (see view_of [] c) i None ≡ see (λ r. get_or (view_of r) i None) None c
+view_at_lem i Free = refl
+view_at_lem i (Used r) = refl
 
-pub links-at : (i : ℕ) (c : Cell) → get_or (see (λ r. r.links) [] c) i None ≡ see (λ r. get_or r.links i None) None c
-links-at i Free = refl
-links-at i (Used r) = refl
+pub links_at_lem : (i : ℕ) (c : Cell) → get_or (see (λ r. r.links) [] c) i None ≡ see (λ r. get_or r.links i None) None c
+links_at_lem i Free = refl
+links_at_lem i (Used r) = refl
 
 -- ---- answers
 
@@ -152,4 +152,4 @@ all_of-at (suc n) l e c h = elim (cases_eq c n) [ inl k ↦ grind (arith, all_of
 
 pub ruleset sizes = (arith, alter_at-length, free_at-length, born_at-length, alter_all-length, alter_card-length, length-set, nobody-length)
 
-pub ruleset frame = (sizes, alter_at_tells, free_at_tells, born_at_tells, alter_all-at, alter_card_tells, set_tells, read_all-at, links-at, view-at, nobody-at)
+pub ruleset frame = (sizes, alter_at_tells, free_at_tells, born_at_tells, alter_all-at, alter_card_tells, set_tells, read_all-at, links_at_lem, view_at_lem, nobody-at)

@@ -119,14 +119,14 @@ module _ {C : Type 0} (w : World C) (m l : Meaning) (W : Wired w m) where
   knock_by c false false s = rw s W
   knock_by c false true s = wired_sent c w.order W (omega arith) s
 
-  replied-low : (c : ℕ) (got : Option ℕ) → c < length w.cards → (n : ℕ) → reply_to w c got ≡ Some n → n ≤ (card (attend_done w c got) c).last
-  replied-low c got h n e = grind (nat_tests, frame)
+  replied_low : (c : ℕ) (got : Option ℕ) → c < length w.cards → (n : ℕ) → reply_to w c got ≡ Some n → n ≤ (card (attend_done w c got) c).last
+  replied_low c got h n e = grind (nat_tests, frame)
 
   attend_by : (c : ℕ) (got : Option ℕ) (b d : Bool) → leb (length w.cards) c ≡ b → Unless (attend_out w c got b d).0 (l ≡ m) (Attends c got (attend_out w c got b d).1 m l) → Grows w (attend_out w c got b d).2 → Wired (attend_out w c got b d).2 l
   attend_by c got true d e A G = rw A W
   attend_by c got false true e A G = rw A W
   attend_by c got false false e A G =
-      wired_replied c (reply_to w c got) (wired_grow (wired_less W A.fetched.along A.fetched.across) G) (replied-low c got (grind (nat_tests, arith))) A.replied
+      wired_replied c (reply_to w c got) (wired_grow (wired_less W A.fetched.along A.fetched.across) G) (replied_low c got (grind (nat_tests, arith))) A.replied
 
   hear_by : (c : ℕ) (got : Option ℕ) (b d : Bool) → Unless (hear_out w c got b d).0 (l ≡ m) (Collected c got m l) → Grows w (hear_out w c got b d).1 → Wired (hear_out w c got b d).1 l
   hear_by c got true d A G = rw A W

@@ -88,9 +88,9 @@ gathered w c = leb 3 (turn w c) || is_rest w.phase
 
 -- a path of views over unmarked records leads to x from one that waits or is snooped
 pub data Grey {C : Type 0} (w : World C) : ℕ → Type 0 where
-  grey-wait : (x : ℕ) → wait w x ≡ true → mark w x ≡ false → Grey w x
-  grey-snoop : (x : ℕ) → snooped w x ≡ true → mark w x ≡ false → Grey w x
-  grey-next : (y i x : ℕ) → Grey w y → view w y i ≡ Some x → used w x ≡ true → mark w x ≡ false → Grey w x
+  grey_wait : (x : ℕ) → wait w x ≡ true → mark w x ≡ false → Grey w x
+  grey_snoop : (x : ℕ) → snooped w x ≡ true → mark w x ≡ false → Grey w x
+  grey_next : (y i x : ℕ) → Grey w y → view w y i ≡ Some x → used w x ≡ true → mark w x ≡ false → Grey w x
 
 abbrev pub Covered : {C : Type 0} → World C → ℕ → Type 0
 Covered w x = (mark w x ≡ true) ⊎ Grey w x

@@ -11,7 +11,7 @@ use Rattle.laws.proofs.Switches.{switches_kept}
 use Rattle.laws.proofs.KeptLists.{lists_kept, lists_start}
 use Rattle.laws.proofs.KeptPhases.{phases_kept, phases_start, switches_start}
 use Rattle.laws.proofs.KeptNames.{names_kept, names_start}
-use Rattle.laws.proofs.KeptUpdates.{updates-kept, updates-start}
+use Rattle.laws.proofs.KeptUpdates.{updates_kept, updates_start}
 use Rattle.laws.proofs.KeptCoverage.{coverage_kept, coverage_start}
 
 pub inv_start : {C : Type 0} {w : World C} {m : Meaning} → Start w m → Inv w m
@@ -21,7 +21,7 @@ inv_start s = record {
   lists = lists_start s;
   names = names_start s;
   phases = phases_start s;
-  updates = updates-start s;
+  updates = updates_start s;
   coverage = coverage_start s;
 }
 
@@ -34,7 +34,7 @@ changed {C} {w} {v} {m} I s h =
       lists = lists_kept I h;
       names = names_kept w m I h;
       phases = phases_kept I h;
-      updates = updates-kept w m I h;
+      updates = updates_kept w m I h;
       coverage = coverage_kept w m I h;
     }
 

@@ -12,14 +12,14 @@ use Rattle.laws.specs.Leads.{leads_start, leads_link, Led, Holds}
 use Rattle.laws.proofs.Frames.{frame}
 use Rattle.laws.proofs.Pushes.{push_all_tells}
 use Rattle.laws.proofs.Cases.{Change, same, news, loads, copies, drops, looks, notes, stores, opens, obeys, hears, logs, gathers, leaves, sweeps, traces, eases, keeps, frees, settles}
-use Rattle.laws.proofs.Inv.{Inv, Grey, grey-wait, grey-snoop, grey-next, Covered, gathered}
+use Rattle.laws.proofs.Inv.{Inv, Grey, grey_wait, grey_snoop, grey_next, Covered, gathered}
 
 module _ {C : Type 0} (w : World C) (m : Meaning) (I : Inv w m) where
   -- in Sweep nothing waits and nothing is snooped, so what is covered is marked
   no_grey : w.phase ≡ ph.Sweep → {x : ℕ} → Grey w x → ⊥
-  no_grey p (grey-wait x a k) = grind (arith, I.phases.waits, p)
-  no_grey p (grey-snoop x a k) = grind (arith, I.phases.snoops, p)
-  no_grey p (grey-next y i x g e u k) = no_grey p g
+  no_grey p (grey_wait x a k) = grind (arith, I.phases.waits, p)
+  no_grey p (grey_snoop x a k) = grind (arith, I.phases.snoops, p)
+  no_grey p (grey_next y i x g e u k) = no_grey p g
 
   pub covered_marked : w.phase ≡ ph.Sweep → (x : ℕ) → Covered w x → mark w x ≡ true
   covered_marked p x (inl k) = k

@@ -12,52 +12,52 @@ use Rattle.machine.specs.Cards.{new_done, load_done, copy_done, drop_done, look_
 use Rattle.machine.specs.Rounds.{enter, trace_done, trace_mark, leave_gather, start_sweep, obey, sweep_keep, sweep_free}
 use Rattle.line.specs.Lines.{Meaning}
 use Rattle.laws.specs.Steps.{Start}
-use Rattle.laws.proofs.Frames.{frame, snooped_names-at, view-at}
+use Rattle.laws.proofs.Frames.{frame, snooped_names-at, view_at_lem}
 use Rattle.laws.proofs.Pushes.{Told, push_all_tells, push_all_catches}
 use Rattle.laws.proofs.Cases.{Change, same, news, loads, copies, drops, looks, notes, stores, opens, obeys, hears, logs, gathers, leaves, sweeps, traces, eases, keeps, frees, settles, answered_by}
-use Rattle.laws.proofs.Inv.{Grey, grey-wait, grey-snoop, grey-next, Covered, Safe, Inv, Coverage, gathered, late, marking, logging}
+use Rattle.laws.proofs.Inv.{Grey, grey_wait, grey_snoop, grey_next, Covered, Safe, Inv, Coverage, gathered, late, marking, logging}
 
 -- ---- grey and covered
 
 unmarked : {C : Type 0} (w : World C) {x : ℕ} → Grey w x → mark w x ≡ false
-unmarked w (grey-wait x a m) = m
-unmarked w (grey-snoop x a m) = m
-unmarked w (grey-next y i x g e u m) = m
+unmarked w (grey_wait x a m) = m
+unmarked w (grey_snoop x a m) = m
+unmarked w (grey_next y i x g e u m) = m
 
 present : {C : Type 0} (w : World C) {x : ℕ} → Grey w x → used w x ≡ true
-present w (grey-wait x a m) = grind arith
-present w (grey-snoop x a m) = grind arith
-present w (grey-next y i x g e u m) = u
+present w (grey_wait x a m) = grind arith
+present w (grey_snoop x a m) = grind arith
+present w (grey_next y i x g e u m) = u
 
 onward : {C : Type 0} (w : World C) (y i x : ℕ) → Covered w y → mark w y ≡ false → view w y i ≡ Some x → used w x ≡ true → Covered w x
 onward w y i x (inl c) m e u = grind arith
-onward w y i x (inr g) m e u = elim (cases_Bool (mark w x)) [ inl k ↦ inl k | inr k ↦ inr (grey-next y i x g e u k) ]
+onward w y i x (inr g) m e u = elim (cases_Bool (mark w x)) [ inl k ↦ inl k | inr k ↦ inr (grey_next y i x g e u k) ]
 
 snoop_covered : {C : Type 0} (w : World C) (x : ℕ) → snooped w x ≡ true → Covered w x
-snoop_covered w x s = elim (cases_Bool (mark w x)) [ inl k ↦ inl k | inr k ↦ inr (grey-snoop x s k) ]
+snoop_covered w x s = elim (cases_Bool (mark w x)) [ inl k ↦ inl k | inr k ↦ inr (grey_snoop x s k) ]
 
 wait_covered : {C : Type 0} (w : World C) (x : ℕ) → wait w x ≡ true → Covered w x
-wait_covered w x s = elim (cases_Bool (mark w x)) [ inl k ↦ inl k | inr k ↦ inr (grey-wait x s k) ]
+wait_covered w x s = elim (cases_Bool (mark w x)) [ inl k ↦ inl k | inr k ↦ inr (grey_wait x s k) ]
 
 -- ---- covered stays covered
 
 -- cells and colour as before
 module _ {C : Type 0} (w v : World C) (E : v.cells ≡ w.cells) (M : v.marked ≡ w.marked) where
-  same-grey : {x : ℕ} → Grey w x → Grey v x
-  same-grey (grey-wait x a m) = grey-wait x (rw E a) (rw (E, M) m)
-  same-grey (grey-snoop x a m) = grey-snoop x (rw E a) (rw (E, M) m)
-  same-grey (grey-next y i x g e u m) = grey-next y i x (same-grey g) (rw E e) (rw E u) (rw (E, M) m)
+  same_grey : {x : ℕ} → Grey w x → Grey v x
+  same_grey (grey_wait x a m) = grey_wait x (rw E a) (rw (E, M) m)
+  same_grey (grey_snoop x a m) = grey_snoop x (rw E a) (rw (E, M) m)
+  same_grey (grey_next y i x g e u m) = grey_next y i x (same_grey g) (rw E e) (rw E u) (rw (E, M) m)
 
   pub same_covered : (x : ℕ) → Covered w x → Covered v x
   same_covered x (inl m) = inl (rw (E, M) m)
-  same_covered x (inr g) = inr (same-grey g)
+  same_covered x (inr g) = inr (same_grey g)
 
 -- new: a cell that was free
 module _ {C : Type 0} (w : World C) (c p : ℕ) (z : C) (k : ℕ) (ks : List ℕ) (F : used w k ≡ false) where
   new_grey : {x : ℕ} → Grey w x → Grey (new_done w c p z k ks) x
-  new_grey (grey-wait x a m) = grey-wait x (grind frame) (grind frame)
-  new_grey (grey-snoop x a m) = grey-snoop x (grind frame) (grind frame)
-  new_grey (grey-next y i x g e u m) = grey-next y i x (new_grey g) (grind (frame, present w g)) (grind frame) (grind frame)
+  new_grey (grey_wait x a m) = grey_wait x (grind frame) (grind frame)
+  new_grey (grey_snoop x a m) = grey_snoop x (grind frame) (grind frame)
+  new_grey (grey_next y i x g e u m) = grey_next y i x (new_grey g) (grind (frame, present w g)) (grind frame) (grind frame)
 
   pub new_covered : (x : ℕ) → Covered w x → Covered (new_done w c p z k ks) x
   new_covered x (inl m) = inl (grind frame)
@@ -68,9 +68,9 @@ stored w c u = store_done w c u (named w u.target)
 
 -- store, where the record is marked or logged
 store_grey : {C : Type 0} (w : World C) (c : ℕ) (u : Update) (t : Name) → Safe w u.cell → {x : ℕ} → Grey w x → Grey (store_done w c u t) x
-store_grey w c u t S (grey-wait x a m) = grey-wait x (grind frame) (grind frame)
-store_grey w c u t S (grey-snoop x a m) = grey-snoop x (grind frame) (grind frame)
-store_grey w c u t S (grey-next y i x g e k m) = grey-next y i x (store_grey w c u t S g) (grind (frame, unmarked w g, S)) (grind frame) (grind frame)
+store_grey w c u t S (grey_wait x a m) = grey_wait x (grind frame) (grind frame)
+store_grey w c u t S (grey_snoop x a m) = grey_snoop x (grind frame) (grind frame)
+store_grey w c u t S (grey_next y i x g e k m) = grey_next y i x (store_grey w c u t S g) (grind (frame, unmarked w g, S)) (grind frame) (grind frame)
 
 abbrev draft_link : Option (List Name) → ℕ → Name
 draft_link None i = None
@@ -82,14 +82,14 @@ Drafted w u d = (i x : ℕ) → is_some d ≡ true → mark w u.cell ≡ false �
 
 module _ {C : Type 0} (w : World C) (c : ℕ) (u : Update) (d : Option (List Name)) (D : Drafted w u d) where
   note_grey : {x : ℕ} → Grey w x → Grey (note_done w c u d) x
-  note_grey (grey-wait x a m) = grey-wait x (grind frame) (grind frame)
-  note_grey (grey-snoop x a m) = grey-snoop x (grind frame) (grind frame)
-  note_grey (grey-next y i x g e k m) =
+  note_grey (grey_wait x a m) = grey_wait x (grind frame) (grind frame)
+  note_grey (grey_snoop x a m) = grey_snoop x (grind frame) (grind frame)
+  note_grey (grey_next y i x g e k m) =
       let n : mark w y ≡ false = unmarked w g in
       let q : (view (note_done w c u d) y i ≡ Some x) ⊎ (snooped (note_done w c u d) x ≡ true) = grind (frame, n, D i x) in
       elim q [
-        | inl v ↦ grey-next y i x (note_grey g) v (grind frame) (grind frame)
-        | inr s ↦ grey-snoop x s (grind frame)
+        | inl v ↦ grey_next y i x (note_grey g) v (grind frame) (grind frame)
+        | inr s ↦ grey_snoop x s (grind frame)
       ]
 
   pub note_covered : (x : ℕ) → Covered w x → Covered (note_done w c u d) x
@@ -101,14 +101,14 @@ module _ {C : Type 0} (w : World C) (c n : ℕ) where
   pub obey_tells : (x : ℕ) → Told w.marked (heap w) (push_all w.marked (heap w) (card w c).places) (card w c).places x
   obey_tells x = push_all_tells w.marked (heap w) (card w c).places x
 
-  obey-grey : {x : ℕ} → Grey w x → Grey (obey w c n) x
-  obey-grey (grey-wait x a m) = grey-wait x (grind (frame, obey_tells x)) (grind (frame, obey_tells x))
-  obey-grey (grey-snoop x a m) = grey-snoop x (grind (frame, obey_tells x)) (grind (frame, obey_tells x))
-  obey-grey (grey-next y i x g e u m) = grey-next y i x (obey-grey g) (grind (frame, obey_tells y)) (grind (frame, obey_tells x)) (grind (frame, obey_tells x))
+  obey_grey : {x : ℕ} → Grey w x → Grey (obey w c n) x
+  obey_grey (grey_wait x a m) = grey_wait x (grind (frame, obey_tells x)) (grind (frame, obey_tells x))
+  obey_grey (grey_snoop x a m) = grey_snoop x (grind (frame, obey_tells x)) (grind (frame, obey_tells x))
+  obey_grey (grey_next y i x g e u m) = grey_next y i x (obey_grey g) (grind (frame, obey_tells y)) (grind (frame, obey_tells x)) (grind (frame, obey_tells x))
 
   pub obey_covered : (x : ℕ) → Covered w x → Covered (obey w c n) x
   obey_covered x (inl m) = inl (grind (frame, obey_tells x))
-  obey_covered x (inr g) = inr (obey-grey g)
+  obey_covered x (inr g) = inr (obey_grey g)
 
 -- leaving Gather: what is snooped waits
 module _ {C : Type 0} (w : World C) where
@@ -116,12 +116,12 @@ module _ {C : Type 0} (w : World C) where
   leave_tells x = push_all_tells w.marked (heap w) (snooped_names 0 w.cells) x
 
   leave_grey : {x : ℕ} → Grey w x → Grey (leave_gather w) x
-  leave_grey (grey-wait x a m) = grey-wait x (grind (frame, leave_tells x)) (grind (frame, leave_tells x))
-  leave_grey (grey-snoop x a m) =
+  leave_grey (grey_wait x a m) = grey_wait x (grind (frame, leave_tells x)) (grind (frame, leave_tells x))
+  leave_grey (grey_snoop x a m) =
       let e : get_or (snooped_names 0 w.cells) x None ≡ Some x = grind (arith, snooped_names-at 0 w.cells x) in
       let k = push_all_catches w.marked (heap w) (snooped_names 0 w.cells) x x e in
-      grey-wait x (grind (frame, k, leave_tells x)) (grind (frame, leave_tells x))
-  leave_grey (grey-next y i x g e u m) = grey-next y i x (leave_grey g) (grind (frame, leave_tells y)) (grind (frame, leave_tells x)) (grind (frame, leave_tells x))
+      grey_wait x (grind (frame, k, leave_tells x)) (grind (frame, leave_tells x))
+  leave_grey (grey_next y i x g e u m) = grey_next y i x (leave_grey g) (grind (frame, leave_tells y)) (grind (frame, leave_tells x)) (grind (frame, leave_tells x))
 
   pub leave_covered : (x : ℕ) → Covered w x → Covered (leave_gather w) x
   leave_covered x (inl m) = inl (grind (frame, leave_tells x))
@@ -137,15 +137,15 @@ module _ {C : Type 0} (w : World C) (k : ℕ) (ks : List ℕ) (K : used w k ≡ 
 
   pub caught : (i x : ℕ) → view w k i ≡ Some x → used w x ≡ true → Covered (trace_done w k ks) x
   caught i x e u =
-      let c = push_all_catches w.marked (heap (trace_mark w k ks)) (view_at w k) i x (view-at i (at w k) ∙ e) in
+      let c = push_all_catches w.marked (heap (trace_mark w k ks)) (view_at w k) i x (view_at_lem i (at w k) ∙ e) in
       let v : used (trace_done w k ks) x ≡ true = grind (frame, trace_tells x) in
       let s : (mark (trace_done w k ks) x ≡ true) ⊎ ((wait (trace_done w k ks) x ≡ true) × (mark (trace_done w k ks) x ≡ false)) = grind (arith, c, v) in
-      elim s [ inl m ↦ inl m | inr p ↦ inr (grey-wait x p.0 p.1) ]
+      elim s [ inl m ↦ inl m | inr p ↦ inr (grey_wait x p.0 p.1) ]
 
   trace_grey : {x : ℕ} → Grey w x → Covered (trace_done w k ks) x
-  trace_grey (grey-wait x a m) = elim (cases_eq x k) [ inl e ↦ inl (rw e traced) | inr n ↦ inr (grey-wait x (grind (frame, trace_tells x)) (grind (frame, trace_tells x))) ]
-  trace_grey (grey-snoop x a m) = elim (cases_eq x k) [ inl e ↦ inl (rw e traced) | inr n ↦ inr (grey-snoop x (grind (frame, trace_tells x)) (grind (frame, trace_tells x))) ]
-  trace_grey (grey-next y i x g e u m) =
+  trace_grey (grey_wait x a m) = elim (cases_eq x k) [ inl e ↦ inl (rw e traced) | inr n ↦ inr (grey_wait x (grind (frame, trace_tells x)) (grind (frame, trace_tells x))) ]
+  trace_grey (grey_snoop x a m) = elim (cases_eq x k) [ inl e ↦ inl (rw e traced) | inr n ↦ inr (grey_snoop x (grind (frame, trace_tells x)) (grind (frame, trace_tells x))) ]
+  trace_grey (grey_next y i x g e u m) =
       elim (cases_eq y k) [
         | inl b ↦ caught i x (rw b at e) u
         | inr n ↦ onward (trace_done w k ks) y i x (trace_grey g) (grind (frame, trace_tells y, unmarked w g)) (grind (frame, trace_tells y)) (grind (frame, trace_tells x))
@@ -171,9 +171,9 @@ module _ {C : Type 0} (w : World C) (m : Meaning) (I : Inv w m) where
 
   -- where nothing waits, what is covered is marked
   no_grey : late w.phase ≡ true → marking w.phase ≡ false → {x : ℕ} → Grey w x → ⊥
-  no_grey l p (grey-wait x a k) = grind (arith, I.phases.waits p x)
-  no_grey l p (grey-snoop x a k) = let q : snooped w x ≡ false = I.phases.snoops (grind arith) x in grind arith
-  no_grey l p (grey-next y i x g e u k) = no_grey l p g
+  no_grey l p (grey_wait x a k) = grind (arith, I.phases.waits p x)
+  no_grey l p (grey_snoop x a k) = let q : snooped w x ≡ false = I.phases.snoops (grind arith) x in grind arith
+  no_grey l p (grey_next y i x g e u k) = no_grey l p g
 
   pub covered_marked : late w.phase ≡ true → marking w.phase ≡ false → (x : ℕ) → Covered w x → mark w x ≡ true
   covered_marked l p x (inl k) = k
@@ -331,8 +331,8 @@ module _ {C : Type 0} (w : World C) (m : Meaning) (I : Inv w m) where
     obey_turn : late w.phase ≡ true → (gathered w c ≡ true) ⊎ (n % 4 ≡ 3)
     obey_turn l = grind (nat_tests, arith, I.handshake.order, I.handshake.lasts c a)
 
-    obey-place : (x q y : ℕ) → gathered (obey w c n) x ≡ true → place (obey w c n) x q ≡ Some y → (place w x q ≡ Some y) × ((x ≡ c) ⊎ (gathered w x ≡ true))
-    obey-place x q y g f = grind frame
+    obey_place : (x q y : ℕ) → gathered (obey w c n) x ≡ true → place (obey w c n) x q ≡ Some y → (place w x q ≡ Some y) × ((x ≡ c) ⊎ (gathered w x ≡ true))
+    obey_place x q y g f = grind frame
 
     -- gather: what a place names waits or is marked
     obey_caught : n % 4 ≡ 3 → (q x : ℕ) → place w c q ≡ Some x → Covered (obey w c n) x
@@ -342,21 +342,21 @@ module _ {C : Type 0} (w : World C) (m : Meaning) (I : Inv w m) where
         let s : (mark (obey w c n) x ≡ true) ⊎ (wait (obey w c n) x ≡ true) = grind (nat_tests, frame, k, u, obey_tells w c n x) in
         elim s [ inl b ↦ inl b | inr b ↦ wait_covered (obey w c n) x b ]
 
-    obey-same : (y : ℕ) → (mark (obey w c n) y ≡ mark w y) × (snooped (obey w c n) y ≡ snooped w y)
-    obey-same y = (grind (frame, obey_tells w c n y), grind (frame, obey_tells w c n y))
+    obey_same : (y : ℕ) → (mark (obey w c n) y ≡ mark w y) × (snooped (obey w c n) y ≡ snooped w y)
+    obey_same y = (grind (frame, obey_tells w c n y), grind (frame, obey_tells w c n y))
 
     obey_names : (y i : ℕ) → (link (obey w c n) y i ≡ link w y i) × (view (obey w c n) y i ≡ view w y i)
     obey_names y i = (grind (frame, obey_tells w c n y), grind (frame, obey_tells w c n y))
 
     obey_coverage : Coverage (obey w c n)
     obey_coverage = record {
-      logged = λ l y i x f. elim (I.coverage.logged l y i x (sym (obey_names y i).0 ∙ f)) [ inl g ↦ inl ((obey_names y i).1 ∙ g) | inr g ↦ inr ((obey-same x).1 ∙ g) ];
-      places = λ l x q y g f. let h = obey-place x q y g f in elim h.1 [
+      logged = λ l y i x f. elim (I.coverage.logged l y i x (sym (obey_names y i).0 ∙ f)) [ inl g ↦ inl ((obey_names y i).1 ∙ g) | inr g ↦ inr ((obey_same x).1 ∙ g) ];
+      places = λ l x q y g f. let h = obey_place x q y g f in elim h.1 [
         | inl b ↦ let p : place w c q ≡ Some y = rw b at h.0 in elim (obey_turn l) [ inl t ↦ obey_covered w c n y (I.coverage.places l c q y t p) | inr t ↦ obey_caught t q y p ]
         | inr b ↦ obey_covered w c n y (I.coverage.places l x q y b h.0)
       ];
-      marked = λ l y i x k f. obey_covered w c n x (I.coverage.marked l y i x (sym (obey-same y).0 ∙ k) (sym (obey_names y i).0 ∙ f));
-      unmarked = λ l y i x k f. elim (I.coverage.unmarked l y i x (sym (obey-same y).0 ∙ k) (sym (obey_names y i).0 ∙ f)) [ inl g ↦ inl ((obey_names y i).1 ∙ g) | inr g ↦ inr (obey_covered w c n x g) ];
+      marked = λ l y i x k f. obey_covered w c n x (I.coverage.marked l y i x (sym (obey_same y).0 ∙ k) (sym (obey_names y i).0 ∙ f));
+      unmarked = λ l y i x k f. elim (I.coverage.unmarked l y i x (sym (obey_same y).0 ∙ k) (sym (obey_names y i).0 ∙ f)) [ inl g ↦ inl ((obey_names y i).1 ∙ g) | inr g ↦ inr (obey_covered w c n x g) ];
     }
 
   -- entering Log: nothing is logged

@@ -7,7 +7,7 @@ use Rattle.machine.specs.Rounds.{obey, trace_mark, trace_done, sweep_free, settl
 use Rattle.line.specs.Lines.{Meaning, Among}
 use Rattle.laws.specs.Steps.{Distinct, Start}
 use Rattle.laws.proofs.Frames.{frame, sizes}
-use Rattle.laws.proofs.Pushes.{Queue, push_all_tells, push_all-length, push_all-queue}
+use Rattle.laws.proofs.Pushes.{Queue, push_all_tells, push_all-length, push_all_queue}
 use Rattle.laws.proofs.Cases.{Change, same, news, loads, copies, drops, looks, notes, stores, opens, obeys, hears, logs, gathers, leaves, sweeps, traces, eases, keeps, frees, settles, answered_by}
 use Rattle.laws.proofs.Inv.{Lists, Inv}
 
@@ -97,7 +97,7 @@ module _ {C : Type 0} {w : World C} {m : Meaning} (I : Inv w m) where
       let R : Queue w.marked (heap (trace_mark w k ks)) = record { queued = λ y b. grind (frame, M y b, N y b); waits = λ y b. grind (frame, P y); pale = λ y b. grind (frame, Q.pale y); once = D.1 } in
       let T = push_all_tells w.marked (heap (trace_mark w k ks)) (view_at w k) in
       let S = push_all-length w.marked (heap (trace_mark w k ks)) (view_at w k) in
-      carried _ (push_all-queue w.marked (heap (trace_mark w k ks)) (view_at w k) R) refl refl refl (grind (sizes, S)) (λ x. (grind (frame, T x), grind (frame, T x), grind (frame, T x))) L.eight
+      carried _ (push_all_queue w.marked (heap (trace_mark w k ks)) (view_at w k) R) refl refl refl (grind (sizes, S)) (λ x. (grind (frame, T x), grind (frame, T x), grind (frame, T x))) L.eight
 
   -- a gather puts places onto the waiting list, any other order nothing
   obey_lists : (c n : ℕ) → Lists (obey w c n)
@@ -107,14 +107,14 @@ module _ {C : Type 0} {w : World C} {m : Meaning} (I : Inv w m) where
       carried _ (by (eqb (n % 4) 3)) refl refl refl (grind (sizes, S)) (λ x. (grind (frame, T x), grind (frame, T x), grind (frame, T x))) (λ d h. grind (frame, L.eight d))
     where
       by : (b : Bool) → Queue w.marked (cond b (push_all w.marked (heap w) (card w c).places) (heap w))
-      by true = push_all-queue w.marked (heap w) (card w c).places Q
+      by true = push_all_queue w.marked (heap w) (card w c).places Q
       by false = Q
 
   leave_lists : (c : ℕ) → Lists (leave_gather (answered_by w c))
   leave_lists c =
       let T = push_all_tells w.marked (heap w) (snooped_names 0 w.cells) in
       let S = push_all-length w.marked (heap w) (snooped_names 0 w.cells) in
-      let R = push_all-queue w.marked (heap w) (snooped_names 0 w.cells) Q in
+      let R = push_all_queue w.marked (heap w) (snooped_names 0 w.cells) Q in
       carried _
       (record { queued = λ y b. grind (frame, R.queued y b); waits = λ y b. grind (frame, R.waits y); pale = λ y b. grind (frame, R.pale y); once = R.once })
       refl refl refl (grind (sizes, S)) (λ x. (grind (frame, T x), grind (frame, T x), grind (frame, T x))) L.eight

@@ -128,17 +128,17 @@ module _ {C : Type 0} (w : World C) (m : Meaning) (I : Inv w m) (L : Logs w) whe
 
   -- a card that obeys has no update in hand
   module _ (c n : ℕ) (b : (card w c).update ≡ None) where
-    obey-same : (y i : ℕ) → (mark (obey w c n) y ≡ mark w y) × (log_at (obey w c n) y ≡ log_at w y) × (logged (obey w c n) y ≡ logged w y) × (link (obey w c n) y i ≡ link w y i)
-    obey-same y i = let T = kc.obey_tells w c n y in (grind (frame, T), grind (frame, T), grind (frame, T), grind (frame, T))
+    obey_same : (y i : ℕ) → (mark (obey w c n) y ≡ mark w y) × (log_at (obey w c n) y ≡ log_at w y) × (logged (obey w c n) y ≡ logged w y) × (link (obey w c n) y i ≡ link w y i)
+    obey_same y i = let T = kc.obey_tells w c n y in (grind (frame, T), grind (frame, T), grind (frame, T), grind (frame, T))
 
     obey_turn : (d : ℕ) (u : Update) → (card (obey w c n) d).update ≡ Some u → gathered (obey w c n) d ≡ true → gathered w d ≡ true
     obey_turn d u e g = grind (frame, b)
 
-    obey-logs : Logs (obey w c n)
-    obey-logs = record {
-      marked = λ l y g i x k e f. let o = obey-same y i in kc.obey_covered w c n x (L.marked l y g i x (sym o.0 ∙ k) (sym o.1 ∙ e) f);
-      drafts = λ l d u g i x e t k q f. let o = obey-same u.cell i in kc.obey_covered w c n x (L.drafts l d u g i x (kn.obey-held w m I c n d u e).0 t (sym o.0 ∙ k) (sym o.2 ∙ q) f);
-      fresh = λ l d u g i x h e t k q f. let o = obey-same u.cell i in o.3 ∙ L.fresh l d u g i x (obey_turn d u e h) (kn.obey-held w m I c n d u e).0 t (sym o.0 ∙ k) (sym o.2 ∙ q) f;
+    obey_logs : Logs (obey w c n)
+    obey_logs = record {
+      marked = λ l y g i x k e f. let o = obey_same y i in kc.obey_covered w c n x (L.marked l y g i x (sym o.0 ∙ k) (sym o.1 ∙ e) f);
+      drafts = λ l d u g i x e t k q f. let o = obey_same u.cell i in kc.obey_covered w c n x (L.drafts l d u g i x (kn.obey_held w m I c n d u e).0 t (sym o.0 ∙ k) (sym o.2 ∙ q) f);
+      fresh = λ l d u g i x h e t k q f. let o = obey_same u.cell i in o.3 ∙ L.fresh l d u g i x (obey_turn d u e h) (kn.obey_held w m I c n d u e).0 t (sym o.0 ∙ k) (sym o.2 ∙ q) f;
     }
 
   -- entering Gather: nothing is marked, and no card has gathered
@@ -184,8 +184,8 @@ module _ {C : Type 0} (w : World C) (m : Meaning) (I : Inv w m) (L : Logs w) whe
     all_gathered : (d : ℕ) (u : Update) → (card w d).update ≡ Some u → gathered w d ≡ true
     all_gathered d u e = let h = kn.hand_inside w m I d u e in grind (nat_tests, arith, I.handshake.order, I.handshake.lasts d h)
 
-    logged-view : (g : List Name) (i x : ℕ) → log_at w k ≡ Some g → get_or g i None ≡ Some x → view w k i ≡ Some x
-    logged-view g i x e f = grind arith
+    logged_view : (g : List Name) (i x : ℕ) → log_at w k ≡ Some g → get_or g i None ≡ Some x → view w k i ≡ Some x
+    logged_view g i x e f = grind arith
 
     linked_view : (i x : ℕ) → logged w k ≡ false → link w k i ≡ Some x → view w k i ≡ Some x
     linked_view i x n e = grind arith
@@ -198,7 +198,7 @@ module _ {C : Type 0} (w : World C) (m : Meaning) (I : Inv w m) (L : Logs w) whe
         record {
           marked = λ _ y g i x n e f. let o : log_at w y ≡ Some g = sym (trace_same y i).0 ∙ e in elim (trace_mark_lem y) [
             | inl h ↦ up x (L.marked l y g i x (sym h ∙ n) o f)
-            | inr h ↦ caught i x (logged-view g i x (rw h.0 at o) f)
+            | inr h ↦ caught i x (logged_view g i x (rw h.0 at o) f)
           ];
           drafts = λ _ d u g i x e s n j f. let o : logged w u.cell ≡ false = sym (trace_same u.cell i).1 ∙ j in elim (trace_mark_lem u.cell) [
             | inl h ↦ up x (L.drafts l d u g i x e s (sym h ∙ n) o f)
@@ -213,8 +213,8 @@ module _ {C : Type 0} (w : World C) (m : Meaning) (I : Inv w m) (L : Logs w) whe
         }
 
   -- sweep: what is covered is marked, and what is marked is not freed
-  free-logs : w.phase ≡ ph.Sweep → mark w w.sweep ≡ false → Logs (sweep_free w)
-  free-logs p f =
+  free_logs : w.phase ≡ ph.Sweep → mark w w.sweep ≡ false → Logs (sweep_free w)
+  free_logs p f =
       let l : late w.phase ≡ true = grind arith in
       let up : (x : ℕ) → Covered w x → Covered (sweep_free w) x = λ x k. inl (still x (kc.covered_marked w m I l (grind arith) x k)) in
       record {
@@ -226,39 +226,39 @@ module _ {C : Type 0} (w : World C) (m : Meaning) (I : Inv w m) (L : Logs w) whe
       still : (x : ℕ) → mark w x ≡ true → mark (sweep_free w) x ≡ true
       still x k = grind frame
 
-  pub logs-kept : {v : World C} → Change w v → Logs v
-  logs-kept same = L
-  logs-kept (news c p x k ks a b i f) = new_logs c p x k ks i f
-  logs-kept (loads c p y i q a b d e f g) = steady _ refl refl (λ p. p) (λ p. p) (λ _ d g. grind frame) (λ d u h. (kn.put-held w m I c q (named w (link w y i)) e d u h).0)
-  logs-kept (copies c p q a b d) = steady _ refl refl (λ p. p) (λ p. p) (λ _ d g. grind frame) (λ r u h. (kn.put-held w m I c q (named w (place w c p)) d r u h).0)
-  logs-kept (drops c p a b d) = steady _ refl refl (λ p. p) (λ p. p) (λ _ d g. grind frame) (λ r u h. (kn.put-held w m I c p None d r u h).0)
-  logs-kept (looks c p y i q a b d e f) = look_logs c y i q a
-  logs-kept (notes c u d a b e) = note_logs c u d a b e
-  logs-kept (stores c u a b d) = store_logs c u a b d
-  logs-kept (opens a) = idle _ refl
-  logs-kept (obeys c n a b d e) = obey-logs c n b
-  logs-kept (hears c a b d e) = steady _ refl refl (λ p. p) (λ p. p) (λ _ d g. g) (λ d u h. h)
-  logs-kept (logs c a b d e) = idle _ refl
-  logs-kept (gathers c a b d e) = gather_logs c b
-  logs-kept (leaves c a b d e) = leave_logs c b
-  logs-kept (sweeps c a b d e) = steady _ refl refl (λ p. grind arith) (λ p. grind arith) (λ l d g. grind arith) (λ d u h. h)
-  logs-kept (traces k ks a b) = trace_logs k ks a b
-  logs-kept (eases a b) = steady _ refl refl (λ p. grind arith) (λ p. grind arith) (λ l d g. grind arith) (λ d u h. h)
-  logs-kept (keeps a b) = steady _ refl refl (λ p. grind arith) (λ p. grind arith) (λ l d g. grind arith) (λ d u h. h)
-  logs-kept (frees a b d e) = free-logs a d
-  logs-kept (settles a) = idle _ refl
+  pub logs_kept : {v : World C} → Change w v → Logs v
+  logs_kept same = L
+  logs_kept (news c p x k ks a b i f) = new_logs c p x k ks i f
+  logs_kept (loads c p y i q a b d e f g) = steady _ refl refl (λ p. p) (λ p. p) (λ _ d g. grind frame) (λ d u h. (kn.put_held w m I c q (named w (link w y i)) e d u h).0)
+  logs_kept (copies c p q a b d) = steady _ refl refl (λ p. p) (λ p. p) (λ _ d g. grind frame) (λ r u h. (kn.put_held w m I c q (named w (place w c p)) d r u h).0)
+  logs_kept (drops c p a b d) = steady _ refl refl (λ p. p) (λ p. p) (λ _ d g. grind frame) (λ r u h. (kn.put_held w m I c p None d r u h).0)
+  logs_kept (looks c p y i q a b d e f) = look_logs c y i q a
+  logs_kept (notes c u d a b e) = note_logs c u d a b e
+  logs_kept (stores c u a b d) = store_logs c u a b d
+  logs_kept (opens a) = idle _ refl
+  logs_kept (obeys c n a b d e) = obey_logs c n b
+  logs_kept (hears c a b d e) = steady _ refl refl (λ p. p) (λ p. p) (λ _ d g. g) (λ d u h. h)
+  logs_kept (logs c a b d e) = idle _ refl
+  logs_kept (gathers c a b d e) = gather_logs c b
+  logs_kept (leaves c a b d e) = leave_logs c b
+  logs_kept (sweeps c a b d e) = steady _ refl refl (λ p. grind arith) (λ p. grind arith) (λ l d g. grind arith) (λ d u h. h)
+  logs_kept (traces k ks a b) = trace_logs k ks a b
+  logs_kept (eases a b) = steady _ refl refl (λ p. grind arith) (λ p. grind arith) (λ l d g. grind arith) (λ d u h. h)
+  logs_kept (keeps a b) = steady _ refl refl (λ p. grind arith) (λ p. grind arith) (λ l d g. grind arith) (λ d u h. h)
+  logs_kept (frees a b d e) = free_logs a d
+  logs_kept (settles a) = idle _ refl
 
-pub logs-start : {C : Type 0} {w : World C} {m : Meaning} → Start w m → Logs w
-logs-start {C} {w} s =
+pub logs_start : {C : Type 0} {w : World C} {m : Meaning} → Start w m → Logs w
+logs_start {C} {w} s =
     let p = s.rest.phase in
     record { marked = λ l y g i x k e f. absurd (grind (arith, p)); drafts = λ l c u d i x e t k n f. absurd (grind (arith, p)); fresh = λ l c u d i x g e t k n f. absurd (grind (arith, p)) }
 
 -- ---- along a run
 
 module _ {C : Type 0} (K : Lasts C) where
-  logs-along : {w v : World C} {m l : Meaning} {ks : List (Call C)} {rs : List (Answer C)} → Inv w m → Logs w → Run w m ks rs v l → Logs v
-  logs-along I L done = L
-  logs-along {w} {m = m} I L (then s r) = logs-along (K.step I s) (logs-kept w m I L (changed I s)) r
+  logs_along : {w v : World C} {m l : Meaning} {ks : List (Call C)} {rs : List (Answer C)} → Inv w m → Logs w → Run w m ks rs v l → Logs v
+  logs_along I L done = L
+  logs_along {w} {m = m} I L (then s r) = logs_along (K.step I s) (logs_kept w m I L (changed I s)) r
 
-  pub logs-run : {w v : World C} {m l : Meaning} {ks : List (Call C)} {rs : List (Answer C)} → Start w m → Run w m ks rs v l → Logs v
-  logs-run S r = logs-along (K.start S) (logs-start S) r
+  pub logs_run : {w v : World C} {m l : Meaning} {ks : List (Call C)} {rs : List (Answer C)} → Start w m → Run w m ks rs v l → Logs v
+  logs_run S r = logs_along (K.start S) (logs_start S) r

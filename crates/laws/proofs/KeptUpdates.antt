@@ -32,27 +32,27 @@ module _ {C : Type 0} (w : World C) (m : Meaning) (I : Inv w m) where
         | inr h ↦ let L : (card w c).logging ≡ true = grind (arith, h) in grind (frame, L, h)
       ]
 
-  draft-kept : {v : World C} → Change w v → (c : ℕ) (u : Update) (d : List Name) → (card v c).update ≡ Some u → u.stage ≡ Looked (Some d) → (card v c).logging ≡ true
-  draft-kept same r z l k s = I.updates.draft r z l k s
-  draft-kept (news c p x h ks a b i f) r z l k s = grind (frame, I.updates.draft r z l)
-  draft-kept (loads c p y i q a b d e f g) r z l k s = grind (frame, I.updates.draft r z l)
-  draft-kept (copies c p q a b d) r z l k s = grind (frame, I.updates.draft r z l)
-  draft-kept (drops c p a b d) r z l k s = grind (frame, I.updates.draft r z l)
-  draft-kept (looks c p y i q a b d e f) r z l k s = look_logs c y i q a r z l k s
-  draft-kept (notes c u d a b e) r z l k s = grind (frame, I.updates.draft r z l)
-  draft-kept (stores c u a b e) r z l k s = grind (frame, I.updates.draft r z l)
-  draft-kept (opens a) r z l k s = I.updates.draft r z l k s
-  draft-kept (obeys c n a b d e) r z l k s = grind (frame, I.updates.draft r z l)
-  draft-kept (hears c a b d e) r z l k s = I.updates.draft r z l k s
-  draft-kept (logs c a b d e) r z l k s = I.updates.draft r z l k s
-  draft-kept (gathers c a b d e) r z l k s = I.updates.draft r z l k s
-  draft-kept (leaves c a b d e) r z l k s = I.updates.draft r z l k s
-  draft-kept (sweeps c a b d e) r z l k s = I.updates.draft r z l k s
-  draft-kept (traces h ks a b) r z l k s = I.updates.draft r z l k s
-  draft-kept (eases a b) r z l k s = I.updates.draft r z l k s
-  draft-kept (keeps a b) r z l k s = I.updates.draft r z l k s
-  draft-kept (frees a b d e) r z l k s = I.updates.draft r z l k s
-  draft-kept (settles a) r z l k s = I.updates.draft r z l k s
+  draft_kept : {v : World C} → Change w v → (c : ℕ) (u : Update) (d : List Name) → (card v c).update ≡ Some u → u.stage ≡ Looked (Some d) → (card v c).logging ≡ true
+  draft_kept same r z l k s = I.updates.draft r z l k s
+  draft_kept (news c p x h ks a b i f) r z l k s = grind (frame, I.updates.draft r z l)
+  draft_kept (loads c p y i q a b d e f g) r z l k s = grind (frame, I.updates.draft r z l)
+  draft_kept (copies c p q a b d) r z l k s = grind (frame, I.updates.draft r z l)
+  draft_kept (drops c p a b d) r z l k s = grind (frame, I.updates.draft r z l)
+  draft_kept (looks c p y i q a b d e f) r z l k s = look_logs c y i q a r z l k s
+  draft_kept (notes c u d a b e) r z l k s = grind (frame, I.updates.draft r z l)
+  draft_kept (stores c u a b e) r z l k s = grind (frame, I.updates.draft r z l)
+  draft_kept (opens a) r z l k s = I.updates.draft r z l k s
+  draft_kept (obeys c n a b d e) r z l k s = grind (frame, I.updates.draft r z l)
+  draft_kept (hears c a b d e) r z l k s = I.updates.draft r z l k s
+  draft_kept (logs c a b d e) r z l k s = I.updates.draft r z l k s
+  draft_kept (gathers c a b d e) r z l k s = I.updates.draft r z l k s
+  draft_kept (leaves c a b d e) r z l k s = I.updates.draft r z l k s
+  draft_kept (sweeps c a b d e) r z l k s = I.updates.draft r z l k s
+  draft_kept (traces h ks a b) r z l k s = I.updates.draft r z l k s
+  draft_kept (eases a b) r z l k s = I.updates.draft r z l k s
+  draft_kept (keeps a b) r z l k s = I.updates.draft r z l k s
+  draft_kept (frees a b d e) r z l k s = I.updates.draft r z l k s
+  draft_kept (settles a) r z l k s = I.updates.draft r z l k s
 
   -- ---- marked or logged
 
@@ -85,14 +85,14 @@ module _ {C : Type 0} (w : World C) (m : Meaning) (I : Inv w m) where
   sure_kept : {v : World C} → Change w v → (d : ℕ) (u : Update) → (card v d).update ≡ Some u → (card v d).logging ≡ true → Sure u.stage → Safe v u.cell
   sure_kept same r z k l s = sure r z k l s
   sure_kept (news c p x h ks a b i f) r z k l s = let K = (kn.news_held w m I c p x h ks i r z k).0 in let U = sure r z K (grind frame) s in let V = kn.hand_used w m I r z K in grind (frame, U, V, I.lists.free_is h)
-  sure_kept (loads c p y i q a b d e f g) r z k l s = sure r z (kn.put-held w m I c q (named w (link w y i)) e r z k).0 (grind frame) s
-  sure_kept (copies c p q a b d) r z k l s = sure r z (kn.put-held w m I c q (named w (place w c p)) d r z k).0 (grind frame) s
-  sure_kept (drops c p a b d) r z k l s = sure r z (kn.put-held w m I c p None d r z k).0 (grind frame) s
+  sure_kept (loads c p y i q a b d e f g) r z k l s = sure r z (kn.put_held w m I c q (named w (link w y i)) e r z k).0 (grind frame) s
+  sure_kept (copies c p q a b d) r z k l s = sure r z (kn.put_held w m I c q (named w (place w c p)) d r z k).0 (grind frame) s
+  sure_kept (drops c p a b d) r z k l s = sure r z (kn.put_held w m I c p None d r z k).0 (grind frame) s
   sure_kept (looks c p y i q a b d e f) r z k l s = look_sure c y i q a f r z k l s
   sure_kept (notes c u d a b e) r z k l s = note_sure c u d a b e r z k l s
   sure_kept (stores c u a b e) r z k l s = let U = sure r z (kn.store_held w m I c u (named w u.target) r z k).0 (grind frame) s in grind (frame, U)
   sure_kept (opens a) r z k l s = absurd (no_logging r z k l (inl a))
-  sure_kept (obeys c n a b d e) r z k l s = let U = sure r z (kn.obey-held w m I c n r z k).0 (grind frame) s in let T = push_all_tells w.marked (heap w) (card w c).places z.cell in grind (frame, U, T)
+  sure_kept (obeys c n a b d e) r z k l s = let U = sure r z (kn.obey_held w m I c n r z k).0 (grind frame) s in let T = push_all_tells w.marked (heap w) (card w c).places z.cell in grind (frame, U, T)
   sure_kept (hears c a b d e) r z k l s = sure r z k l s
   sure_kept (logs c a b d e) r z k l s = sure r z k l s
   sure_kept (gathers c a b d e) r z k l s = sure r z k l s
@@ -169,9 +169,9 @@ module _ {C : Type 0} (w : World C) (m : Meaning) (I : Inv w m) where
       let F = I.lists.free_is h in
       let U = I.updates.current r z l j t K s (grind (frame, V, F)) (grind (frame, V, F)) (grind (frame, V, F)) in
       grind (frame, U, F)
-  current_kept (loads c p y i q a b d e f g) r z l j t k s n o h = let U = I.updates.current r z l j t (kn.put-held w m I c q (named w (link w y i)) e r z k).0 s n o h in grind (frame, U)
-  current_kept (copies c p q a b d) r z l j t k s n o h = let U = I.updates.current r z l j t (kn.put-held w m I c q (named w (place w c p)) d r z k).0 s n o h in grind (frame, U)
-  current_kept (drops c p a b d) r z l j t k s n o h = let U = I.updates.current r z l j t (kn.put-held w m I c p None d r z k).0 s n o h in grind (frame, U)
+  current_kept (loads c p y i q a b d e f g) r z l j t k s n o h = let U = I.updates.current r z l j t (kn.put_held w m I c q (named w (link w y i)) e r z k).0 s n o h in grind (frame, U)
+  current_kept (copies c p q a b d) r z l j t k s n o h = let U = I.updates.current r z l j t (kn.put_held w m I c q (named w (place w c p)) d r z k).0 s n o h in grind (frame, U)
+  current_kept (drops c p a b d) r z l j t k s n o h = let U = I.updates.current r z l j t (kn.put_held w m I c p None d r z k).0 s n o h in grind (frame, U)
   current_kept (looks c p y i q a b d e f) r z l j t k s n o h = look_current c y i q a r z l j t k s n o h
   current_kept (notes c u d a b e) r z l j t k s n o h =
       elim (kn.note_hand w m I c u d r z a k) [
@@ -183,7 +183,7 @@ module _ {C : Type 0} (w : World C) (m : Meaning) (I : Inv w m) where
   current_kept (obeys c q a b d e) r z l j t k s n o h =
       let T = push_all_tells w.marked (heap w) (card w c).places in
       let N : r ≡ c → ⊥ = λ g. grind (frame, b) in
-      let U = I.updates.current r z l j t (kn.obey-held w m I c q r z k).0 s (grind (frame, T z.cell)) (grind (frame, T z.cell)) (grind (frame, T z.cell)) in
+      let U = I.updates.current r z l j t (kn.obey_held w m I c q r z k).0 s (grind (frame, T z.cell)) (grind (frame, T z.cell)) (grind (frame, T z.cell)) in
       grind (frame, U, N, T t)
   current_kept (hears c a b d e) r z l j t k s n o h = I.updates.current r z l j t k s n o h
   current_kept (logs c a b d e) r z l j t k s n o h = let U = I.updates.current r z l j t k s n o h in grind (arith, U, b)
@@ -203,11 +203,11 @@ module _ {C : Type 0} (w : World C) (m : Meaning) (I : Inv w m) where
   current_kept (frees a b d e) r z l j t k s n o h = absurd (kn.no_draft w m I r z l k s (inr (inr (inl a))))
   current_kept (settles a) r z l j t k s n o h = absurd (kn.no_draft w m I r z l k s (inr (inr (inr a))))
 
-  pub updates-kept : {v : World C} → Change w v → Updates v
-  updates-kept g = record { draft = draft-kept g; looked = λ c u e l s. sure_kept g c u e l (inl s); noted = λ c u e l s. sure_kept g c u e l (inr s); current = current_kept g }
+  pub updates_kept : {v : World C} → Change w v → Updates v
+  updates_kept g = record { draft = draft_kept g; looked = λ c u e l s. sure_kept g c u e l (inl s); noted = λ c u e l s. sure_kept g c u e l (inr s); current = current_kept g }
 
-pub updates-start : {C : Type 0} {w : World C} {m : Meaning} → Start w m → Updates w
-updates-start {C} {w} s =
+pub updates_start : {C : Type 0} {w : World C} {m : Meaning} → Start w m → Updates w
+updates_start {C} {w} s =
     let U = s.rest.updates in
     record {
       draft = λ c u d e k. grind (arith, U c);

@@ -131,11 +131,11 @@ repeats C w c n (suc k) h = ap (λ v. again k v c n) (once w c n h) ∙ repeats 
 
 -- ---- contents
 
-sweep-contents : {C : Type 0} (w : World C) → (sweep_call w).1.contents ≡ w.contents
-sweep-contents w = grind (nat_tests, arith)
+sweep_contents : {C : Type 0} (w : World C) → (sweep_call w).1.contents ≡ w.contents
+sweep_contents w = grind (nat_tests, arith)
 
 pub contents : (C : Type 0) → ContentsStay C
 contents C = record {
   made = λ n cs k first rounds x j h. grind (arith, nth_set_tells cs 0 x j);
-  swept = sweep-contents;
+  swept = sweep_contents;
 }

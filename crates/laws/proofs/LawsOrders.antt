@@ -107,9 +107,9 @@ module _ {C : Type 0} (w : World C) (d : ℕ) where
   trace_same [] = (refl, refl)
   trace_same (k ∷ ks) = (refl, refl)
 
-  sweep-same : (c : Cell) → Same (sweep_cell w c).1
-  sweep-same Free = (refl, refl)
-  sweep-same (Used r) = by (mark w w.sweep || wait w w.sweep)
+  sweep_same : (c : Cell) → Same (sweep_cell w c).1
+  sweep_same Free = (refl, refl)
+  sweep_same (Used r) = by (mark w w.sweep || wait w w.sweep)
     where
       by : (b : Bool) → Same (cond {A = Outcome C} b (Ok 0, sweep_keep w) (Ok r.serial, sweep_free w)).1
       by true = (refl, refl)
@@ -147,31 +147,31 @@ module _ {C : Type 0} (w : World C) (d : ℕ) where
   settle_goes true = (λ h. absurd (false≢true (sym h)), inl (refl, refl))
   settle_goes false = (λ _. refl, inl (refl, refl))
 
-  act-goes : (k : Call C) (got : Option ℕ) → Goes (is_settle k && accepted (act w k got).0) (act w k got).1 (cond (attends d k && accepted (act w k got).0) (next_order w d got) [])
-  act-goes (New c p x) got =
+  act_goes : (k : Call C) (got : Option ℕ) → Goes (is_settle k && accepted (act w k got).0) (act w k got).1 (cond (attends d k && accepted (act w k got).0) (next_order w d got) [])
+  act_goes (New c p x) got =
       quiet false (new_call w c p x).1 (gate (leb (length w.cards) c) _ _ (gate (ltb 7 p) _ _ (gate (busy w c) _ _ (gate (eqb w.next 4294967295) _ _ (new_same c p x w.free)))))
-  act-goes (Load c p i q) got =
+  act_goes (Load c p i q) got =
       quiet false (load_call w c p i q).1 (gate (leb (length w.cards) c) _ _ (gate (ltb 7 p) _ _ (gate (ltb 7 q) _ _ (gate (ltb 3 i) _ _ (gate (busy w c) _ _ (load_same c (named w (place w c p)) i q))))))
-  act-goes (Copy c p q) got = quiet false (copy_call w c p q).1 (gate (leb (length w.cards) c) _ _ (gate (ltb 7 p) _ _ (gate (ltb 7 q) _ _ (gate (busy w c) _ _ (refl, grind frame)))))
-  act-goes (Drop c p) got = quiet false (drop_call w c p).1 (gate (leb (length w.cards) c) _ _ (gate (ltb 7 p) _ _ (gate (busy w c) _ _ (refl, grind frame))))
-  act-goes (Read c p) got = quiet false w (refl, refl)
-  act-goes (Look c p i q) got =
+  act_goes (Copy c p q) got = quiet false (copy_call w c p q).1 (gate (leb (length w.cards) c) _ _ (gate (ltb 7 p) _ _ (gate (ltb 7 q) _ _ (gate (busy w c) _ _ (refl, grind frame)))))
+  act_goes (Drop c p) got = quiet false (drop_call w c p).1 (gate (leb (length w.cards) c) _ _ (gate (ltb 7 p) _ _ (gate (busy w c) _ _ (refl, grind frame))))
+  act_goes (Read c p) got = quiet false w (refl, refl)
+  act_goes (Look c p i q) got =
       quiet false (look_call w c p i q).1 (gate (leb (length w.cards) c) _ _ (gate (ltb 7 p) _ _ (gate (ltb 7 q) _ _ (gate (ltb 3 i) _ _ (gate (busy w c) _ _ (look_same c (named w (place w c p)) i q))))))
-  act-goes (Note c) got = quiet false (note_call w c).1 (gate (leb (length w.cards) c) _ _ (note_same c (card w c).update))
-  act-goes (Store c) got = quiet false (store_call w c).1 (gate (leb (length w.cards) c) _ _ (store_same c (card w c).update))
-  act-goes Open got = quiet false (open_call w).1 (allow (eqb (phase_number w.phase) 0) _ _ (gate (eqb w.rounds 1073741823) _ _ (refl, refl)))
-  act-goes (Knock c) got = quiet false w (refl, refl)
-  act-goes (Attend c) got = attend_goes c got (leb (length w.cards) c) (busy w c) (eqb c d) refl refl
-  act-goes (Hear c) got = quiet false (hear_call w c got).1 (hear_same c got (leb (length w.cards) c) (ordering w.phase))
-  act-goes Trace got = quiet false (trace_call w).1 (allow (eqb (phase_number w.phase) 4) _ _ (trace_same w.waiting))
-  act-goes Sweep got = quiet false (sweep_call w).1 (allow (eqb (phase_number w.phase) 6) _ _ (sweep-same (at w w.sweep)))
-  act-goes Settle got = settle_goes (eqb (phase_number w.phase) 7)
+  act_goes (Note c) got = quiet false (note_call w c).1 (gate (leb (length w.cards) c) _ _ (note_same c (card w c).update))
+  act_goes (Store c) got = quiet false (store_call w c).1 (gate (leb (length w.cards) c) _ _ (store_same c (card w c).update))
+  act_goes Open got = quiet false (open_call w).1 (allow (eqb (phase_number w.phase) 0) _ _ (gate (eqb w.rounds 1073741823) _ _ (refl, refl)))
+  act_goes (Knock c) got = quiet false w (refl, refl)
+  act_goes (Attend c) got = attend_goes c got (leb (length w.cards) c) (busy w c) (eqb c d) refl refl
+  act_goes (Hear c) got = quiet false (hear_call w c got).1 (hear_same c got (leb (length w.cards) c) (ordering w.phase))
+  act_goes Trace got = quiet false (trace_call w).1 (allow (eqb (phase_number w.phase) 4) _ _ (trace_same w.waiting))
+  act_goes Sweep got = quiet false (sweep_call w).1 (allow (eqb (phase_number w.phase) 6) _ _ (sweep_same (at w w.sweep)))
+  act_goes Settle got = settle_goes (eqb (phase_number w.phase) 7)
 
 step_goes : {C : Type 0} {w v : World C} {m l : Meaning} {k : Call C} {a : Answer C} (d : ℕ) (s : Step w m k a v l) → Goes w d (is_settle k && accepted a) v (cond (attends d k && accepted a) (next_order w d s.got) [])
 step_goes {C} {w} {v} {m} {l} {k} {a} d s =
     subst (λ z. Goes w d (is_settle k && accepted z) v (cond (attends d k && accepted z) (next_order w d s.got) [])) (sym s.answers)
     (subst (λ u. Goes w d (is_settle k && accepted (act w k s.got).0) u (cond (attends d k && accepted (act w k s.got).0) (next_order w d s.got) [])) (sym s.leaves)
-    (act-goes w d k s.got))
+    (act_goes w d k s.got))
 
 -- ---- runs
 
@@ -197,13 +197,13 @@ unfolding count_up
 counted {C} {w} c done = record { n = 0; last = omega arith; orders = refl }
 counted c (then s r) = counted_more _ _ _ c _ _ (step_goes c s).1 (counted c r)
 
-same-rounds : {C : Type 0} {w v : World C} {m l : Meaning} {ks : List (Call C)} {rs : List (Answer C)} → Run w m ks rs v l → Unclosed ks rs → v.rounds ≡ w.rounds
-same-rounds done U = refl
-same-rounds (then s r) U = same-rounds r U.1 ∙ (step_goes 0 s).0 U.0
+same_rounds : {C : Type 0} {w v : World C} {m l : Meaning} {ks : List (Call C)} {rs : List (Answer C)} → Run w m ks rs v l → Unclosed ks rs → v.rounds ≡ w.rounds
+same_rounds done U = refl
+same_rounds (then s r) U = same_rounds r U.1 ∙ (step_goes 0 s).0 U.0
 
-same-cards : {C : Type 0} {w v : World C} {m l : Meaning} {ks : List (Call C)} {rs : List (Answer C)} → Inv w m → Run w m ks rs v l → length v.cards ≡ length w.cards
-same-cards I done = refl
-same-cards I (then s r) = same-cards (inv_step I s) r ∙ (grows (changed I s)).cards
+same_cards : {C : Type 0} {w v : World C} {m l : Meaning} {ks : List (Call C)} {rs : List (Answer C)} → Inv w m → Run w m ks rs v l → length v.cards ≡ length w.cards
+same_cards I done = refl
+same_cards I (then s r) = same_cards (inv_step I s) r ∙ (grows (changed I s)).cards
 
 four : (a n : ℕ) → n ≡ 4 → count_up (a + 1) n ≡ (a + 1) ∷ (a + 2) ∷ (a + 3) ∷ (a + 4) ∷ []
 unfolding count_up
@@ -221,12 +221,12 @@ orders C w₀ w w' u v m₀ m m' l n ks ks' rs rs' a b S r o oa ρ U t ta c h =
     let E : w' ≡ open_done w = o.leaves ∙ opens_so w A in
     let J : Inv w' m' = inv_step I o in
     let K : Inv u l = inv_along lasts J ρ in
-    let k : c < length u.cards = omega (arith, same-cards J ρ, ap (λ z. length z.cards) E) in
+    let k : c < length u.cards = omega (arith, same_cards J ρ, ap (λ z. length z.cards) E) in
     let p : w.phase ≡ ph.Rest = opens_at_rest w A in
     let q : u.phase ≡ ph.Settle = settles_at u B in
     let x : (card w c).last ≡ 4 * w.rounds = grind (arith, I.handshake.order, I.handshake.lasts c h) in
     let y : (card u c).last ≡ 4 * u.rounds + 4 = grind (arith, K.handshake.order, K.handshake.lasts c k) in
-    let z : u.rounds ≡ w.rounds = same-rounds ρ U ∙ ap (λ z. z.rounds) E in
+    let z : u.rounds ≡ w.rounds = same_rounds ρ U ∙ ap (λ z. z.rounds) E in
     let e : (card w' c).last ≡ 4 * w.rounds = ap (λ z. (card z c).last) E ∙ x in
     let N : Counted w' u c (obeyed c ρ) = counted c ρ in
     let f : N.n ≡ 4 = omega (arith, N.last) in

@@ -14,7 +14,7 @@ use Rattle.laws.proofs.Inv.{Inv, Logs, logging, late, marking}
 use Rattle.laws.proofs.Runs.{inv_run}
 use Rattle.laws.proofs.Kept.{covered_marked, led_marked}
 use Rattle.laws.proofs.KeptCoverage as kc
-use Rattle.laws.proofs.KeptLogs.{logs-run}
+use Rattle.laws.proofs.KeptLogs.{logs_run}
 use Rattle.laws.proofs.WholeRun.{lasts}
 
 nobody_in : (xs : List ℕ) → ((x : ℕ) → Among x xs → ⊥) → xs ≡ []
@@ -69,8 +69,8 @@ module _ {C : Type 0} (w : World C) (m : Meaning) (I : Inv w m) (L : Logs w) whe
   -- ---- logs
 
   module _ (y : ℕ) (l : List Name) (i x : ℕ) (e : log_at w y ≡ Some l) (g : get_or l i None ≡ Some x) (f : used w x ≡ false) where
-    logs-used : used w y ≡ true
-    logs-used = grind (arith, e)
+    logs_used : used w y ≡ true
+    logs_used = grind (arith, e)
 
     -- where nothing waits, what a marked record's log names is marked, and so used
     log_unmarked : late w.phase ≡ true → marking w.phase ≡ false → mark w y ≡ true → ⊥
@@ -96,10 +96,10 @@ module _ {C : Type 0} (w : World C) (m : Meaning) (I : Inv w m) (L : Logs w) whe
         by ph.Trace h = absurd (unlogged (rw h refl))
         by ph.Ease h = absurd (unlogged (rw h refl))
         by ph.Sweep h = h
-        by ph.Settle h = absurd (log_unmarked (rw h refl) (rw h refl) (I.phases.settle h y logs-used))
+        by ph.Settle h = absurd (log_unmarked (rw h refl) (rw h refl) (I.phases.settle h y logs_used))
 
-    free-logged : SoonFreed w y
-    free-logged = soon_freed y logs-used log_sweeping (log_unmarked (rw log_sweeping refl) (rw log_sweeping refl))
+    free_logged : SoonFreed w y
+    free_logged = soon_freed y logs_used log_sweeping (log_unmarked (rw log_sweeping refl) (rw log_sweeping refl))
 
   -- ---- drafts
 
@@ -119,11 +119,11 @@ module _ {C : Type 0} (w : World C) (m : Meaning) (I : Inv w m) (L : Logs w) whe
         targets = λ c u x e t. N.places c (N.target c u x e t).0 x (N.target c u x e t).1;
         drafts = λ c u d i x e s g. N.drafts (drafting c u d e s) c u d i x e s g;
         links = free_linked;
-        logs = free-logged;
+        logs = free_logged;
       }
 
-pub rest-marked : (C : Type 0) → AtRestAllMarked C
-rest-marked C w₀ w m₀ m ks rs S r p = all_marked w m (inv_run lasts S r) p
+pub rest_marked : (C : Type 0) → AtRestAllMarked C
+rest_marked C w₀ w m₀ m ks rs S r p = all_marked w m (inv_run lasts S r) p
 
 pub names_used : (C : Type 0) → NamesOfFreeCells C
-names_used C w₀ w m₀ m ks rs S r = no_free_names w m (inv_run lasts S r) (logs-run lasts S r)
+names_used C w₀ w m₀ m ks rs S r = no_free_names w m (inv_run lasts S r) (logs_run lasts S r)

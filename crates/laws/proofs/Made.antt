@@ -8,10 +8,10 @@ use Rattle.line.specs.Lines.{Among}
 use Rattle.laws.specs.Steps.{AtRest, Distinct}
 use Rattle.laws.proofs.Frames.{frame, born_at-length}
 
-free-at : (n y : ℕ) → get_or (replicate n Free) y Free ≡ Free
-free-at zero y = refl
-free-at (suc n) zero = refl
-free-at (suc n) (suc y) = free-at n y
+free_at_lem : (n y : ℕ) → get_or (replicate n Free) y Free ≡ Free
+free_at_lem zero y = refl
+free_at_lem (suc n) zero = refl
+free_at_lem (suc n) (suc y) = free_at_lem n y
 
 -- one of n equal things, or the default past them
 like : {A : Type 0} (n : ℕ) (a d : A) (c : ℕ) → ((get_or (replicate n a) c d ≡ a) × (c < n)) ⊎ ((get_or (replicate n a) c d ≡ d) × (n ≤ c))
@@ -47,10 +47,10 @@ made n cs k first rounds x h e f =
     record {
       phase = refl;
       marked = refl;
-      colours = λ y. grind (frame, free-at n);
-      waits = λ y. grind (frame, free-at n);
-      snoops = λ y. grind (frame, free-at n);
-      logs = λ y. grind (frame, free-at n);
+      colours = λ y. grind (frame, free_at_lem n);
+      waits = λ y. grind (frame, free_at_lem n);
+      snoops = λ y. grind (frame, free_at_lem n);
+      logs = λ y. grind (frame, free_at_lem n);
       waiting = refl;
       order = refl;
       sweep = refl;
@@ -64,14 +64,14 @@ made n cs k first rounds x h e f =
       tables = length-set cs 0 x ∙ e ∙ sym cells;
       answers = length-replicate k false ∙ sym kards;
       eight = λ c l. grind (arith, K c);
-      four = λ y u. grind (frame, free-at n);
-      links = λ y i z a. grind (frame, free-at n);
-      places = λ c q z a. grind (frame, free-at n, K c);
-      free_is = λ y a. grind (frame, count_is 1 (n - 1) y a, cells, free-at n);
-      free_has = λ y l u. count_has 1 (n - 1) y (grind (frame, free-at n, cells)) (grind (frame, free-at n, cells));
+      four = λ y u. grind (frame, free_at_lem n);
+      links = λ y i z a. grind (frame, free_at_lem n);
+      places = λ c q z a. grind (frame, free_at_lem n, K c);
+      free_is = λ y a. grind (frame, count_is 1 (n - 1) y a, cells, free_at_lem n);
+      free_has = λ y l u. count_has 1 (n - 1) y (grind (frame, free_at_lem n, cells)) (grind (frame, free_at_lem n, cells));
       free_once = count_once 1 (n - 1);
-      apart = λ y z u v s. grind (frame, free-at n);
-      above = λ y u. grind (frame, free-at n);
-      below = λ y u. grind (frame, free-at n);
+      apart = λ y z u v s. grind (frame, free_at_lem n);
+      above = λ y u. grind (frame, free_at_lem n);
+      below = λ y u. grind (frame, free_at_lem n);
       next = omega arith;
     }

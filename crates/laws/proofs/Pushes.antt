@@ -20,8 +20,8 @@ push_tells : (m : Colour) (h : Heap) (v : Name) (x : ℕ) → (cell_of (push m h
 push_tells m h None x = inl refl
 push_tells m h (Some y) x = grind frame
 
-pale-grey : (m : Colour) (c : Cell) → pale m (alter greyen c) ≡ false
-pale-grey m c = grind arith
+pale_grey : (m : Colour) (c : Cell) → pale m (alter greyen c) ≡ false
+pale_grey m c = grind arith
 
 pub push_all_tells : (m : Colour) (h : Heap) (vs : List Name) (x : ℕ) → Told m h (push_all m h vs) vs x
 unfolding push_all
@@ -34,7 +34,7 @@ push_all_tells m h (v ∷ vs) x =
       ]
       | inr a ↦ elim (push_tells m h v x) [
         | inl b ↦ inr (a.0 ∙ ap (alter greyen) b, ap (pale m) (sym b) ∙ a.1, (suc a.2.0, a.2.1))
-        | inr b ↦ let k : pale m (cell_of (push m h v) x) ≡ false = ap (pale m) b.0 ∙ pale-grey m (cell_of h x) in inl (grind (arith, k, a.1))
+        | inr b ↦ let k : pale m (cell_of (push m h v) x) ≡ false = ap (pale m) b.0 ∙ pale_grey m (cell_of h x) in inl (grind (arith, k, a.1))
       ]
     ]
 
@@ -52,7 +52,7 @@ pub push_all_catches : (m : Colour) (h : Heap) (vs : List Name) (i x : ℕ) → 
 unfolding push_all
 push_all_catches m h [] i x e = grind arith
 push_all_catches m h (v ∷ vs) zero x e =
-    let k : pale m (cell_of (push m h v) x) ≡ false = grind (frame, pale-grey) in
+    let k : pale m (cell_of (push m h v) x) ≡ false = grind (frame, pale_grey) in
     grind (arith, push_all_tells m (push m h v) vs x, k)
 push_all_catches m h (v ∷ vs) (suc i) x e = push_all_catches m (push m h v) vs i x e
 
@@ -67,15 +67,15 @@ abbrev cell_in : Name → ℕ
 cell_in None = 0
 cell_in (Some x) = x
 
-push-queue : (m : Colour) (h : Heap) (v : Name) → Queue m h → Queue m (push m h v)
-push-queue m h v Q = record {
+push_queue : (m : Colour) (h : Heap) (v : Name) → Queue m h → Queue m (push m h v)
+push_queue m h v Q = record {
   queued = λ x k. grind (frame, Q.queued x);
   waits = λ x k. grind (frame, Q.waits x);
   pale = λ x k. grind (frame, Q.pale x);
   once = grind (frame, Q.once, Q.queued (cell_in v));
 }
 
-pub push_all-queue : (m : Colour) (h : Heap) (vs : List Name) → Queue m h → Queue m (push_all m h vs)
+pub push_all_queue : (m : Colour) (h : Heap) (vs : List Name) → Queue m h → Queue m (push_all m h vs)
 unfolding push_all
-push_all-queue m h [] Q = Q
-push_all-queue m h (v ∷ vs) Q = push_all-queue m (push m h v) vs (push-queue m h v Q)
+push_all_queue m h [] Q = Q
+push_all_queue m h (v ∷ vs) Q = push_all_queue m (push m h v) vs (push_queue m h v Q)

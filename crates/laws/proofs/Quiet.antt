@@ -138,13 +138,13 @@ pub led_used : {C : Type 0} (w : World C) {x : ℕ} → Led w x → used w x ≡
 led_used w (leads_start x s v) = v
 led_used w (leads_link z j x l a v) = v
 
-at-sweep : (p : Phase) → ((p ≡ ph.Sweep) ⊎ (p ≡ ph.Sweep → ⊥))
-at-sweep p = grind arith
+at_sweep : (p : Phase) → ((p ≡ ph.Sweep) ⊎ (p ≡ ph.Sweep → ⊥))
+at_sweep p = grind arith
 
 module _ {C : Type 0} (w : World C) (m : Meaning) (I : Inv w m) where
   -- what a record names to which links lead is in use, in Sweep too
   pub led_names : (y i x : ℕ) → Led w y → link w y i ≡ Some x → used w x ≡ true
-  led_names y i x l e = elim (at-sweep w.phase) [
+  led_names y i x l e = elim (at_sweep w.phase) [
     | inl p ↦ let k : mark w x ≡ true = covered_marked w m I p x (I.coverage.marked (grind (arith, p)) y i x (led_marked w m I p l) e) in grind arith
     | inr n ↦ I.names.links n y i x e
   ]
@@ -168,27 +168,27 @@ module _ {C : Type 0} (w : World C) (m : Meaning) (I : Inv w m) where
     free_name None f = refl
     free_name (Some x) f = grind (frame, stays x (f x refl))
 
-    free-intent : (c : ℕ) (u : Option Update) → (card w c).update ≡ u → intent (sweep_free w) u ≡ intent w u
-    free-intent c None h = refl
-    free-intent c (Some u) h =
+    free_intent : (c : ℕ) (u : Option Update) → (card w c).update ≡ u → intent (sweep_free w) u ≡ intent w u
+    free_intent c None h = refl
+    free_intent c (Some u) h =
         let P = I.names.update c u h in
         let A = free_serial u.cell (placed_led c P.0 u.cell P.1) in
         let B = free_name u.target (λ x a. let T = I.names.target c u x h a in placed_led c T.0 x T.1) in
         grind (arith, A, B)
 
-    free-links : (x i : ℕ) → Led w x → link (sweep_free w) x i ≡ link w x i
-    free-links x i l = grind (frame, stays x l)
+    free_links : (x i : ℕ) → Led w x → link (sweep_free w) x i ≡ link w x i
+    free_links x i l = grind (frame, stays x l)
 
-    free-alike : (e : Endless C) → Alike w e → Alike (sweep_free w) e
-    free-alike e R = record {
+    free_alike : (e : Endless C) → Alike w e → Alike (sweep_free w) e
+    free_alike e R = record {
       cards = R.cards;
       next = R.next;
       places = λ c q. R.places c q ∙ sym (free_name (place w c q) (placed_led c q));
-      updates = λ c. R.updates c ∙ sym (free-intent c (card w c).update refl);
+      updates = λ c. R.updates c ∙ sym (free_intent c (card w c).update refl);
       links = λ x i l.
           let j = free_led l in
           ap (λ s. e.links s i) (free_serial x j) ∙ R.links x i j
-          ∙ sym (free_name (link w x i) (λ z a. leads_link x i z j a (led_names x i z j a))) ∙ ap (serial_name (sweep_free w)) (sym (free-links x i j));
+          ∙ sym (free_name (link w x i) (λ z a. leads_link x i z j a (led_names x i z j a))) ∙ ap (serial_name (sweep_free w)) (sym (free_links x i j));
       contents = λ x l. ap e.contents (free_serial x (free_led l)) ∙ R.contents x (free_led l);
     }
 
@@ -197,9 +197,9 @@ module _ {C : Type 0} (w : World C) (m : Meaning) (I : Inv w m) where
     way true o q A B = A refl
     way false o q A B = B refl
 
-    sweep-from : (c : Cell) → w.phase ≡ ph.Sweep → Alike (sweep_cell w c).1 e
-    sweep-from Free h = quiet_alike w (sweep_keep w) (calm w (sweep_keep w) refl refl refl refl) e R
-    sweep-from (Used r) h = way (mark w w.sweep || wait w w.sweep) _ _ (λ a. quiet_alike w (sweep_keep w) (calm w (sweep_keep w) refl refl refl refl) e R) (λ a. free-alike h (grind arith) e R)
+    sweep_from : (c : Cell) → w.phase ≡ ph.Sweep → Alike (sweep_cell w c).1 e
+    sweep_from Free h = quiet_alike w (sweep_keep w) (calm w (sweep_keep w) refl refl refl refl) e R
+    sweep_from (Used r) h = way (mark w w.sweep || wait w w.sweep) _ _ (λ a. quiet_alike w (sweep_keep w) (calm w (sweep_keep w) refl refl refl refl) e R) (λ a. free_alike h (grind arith) e R)
 
-    pub sweep-alike : Alike (sweep_call w).1 e
-    sweep-alike = way (eqb (phase_number w.phase) 6) _ _ (λ a. sweep-from (at w w.sweep) (grind arith)) (λ a. R)
+    pub sweep_alike : Alike (sweep_call w).1 e
+    sweep_alike = way (eqb (phase_number w.phase) 6) _ _ (λ a. sweep_from (at w w.sweep) (grind arith)) (λ a. R)

@@ -42,8 +42,8 @@ opens_only k e = grind arith
 pub settles_only : {C : Type 0} (k : Call C) → is_settle k ≡ true → k ≡ Settle
 settles_only k e = grind arith
 
-pub opened-by : {C : Type 0} {w v : World C} {m l : Meaning} {k : Call C} {a : Answer C} → Step w m k a v l → (is_open k && accepted a) ≡ true → Step w m Open a v l × (accepted a ≡ true)
-opened-by {C} {w} {v} {m} {l} {k} {a} s e =
+pub opened_by : {C : Type 0} {w v : World C} {m l : Meaning} {k : Call C} {a : Answer C} → Step w m k a v l → (is_open k && accepted a) ≡ true → Step w m Open a v l × (accepted a ≡ true)
+opened_by {C} {w} {v} {m} {l} {k} {a} s e =
     let B = and_parts (is_open k) (accepted a) e in
     (subst (λ z. Step w m z a v l) (opens_only k B.0) s, B.1)
 
@@ -60,30 +60,30 @@ by_test false f g = g refl
 
 -- where the run p from a start has come to w
 module _ {C : Type 0} {w₀ : World C} {m₀ : Meaning} (S : Start w₀ m₀) where
-  safe-along : {w v : World C} {m l : Meaning} {ks₀ ks : List (Call C)} {rs₀ rs : List (Answer C)} → Run w₀ m₀ ks₀ rs₀ w m → (ρ : Run w m ks rs v l) → SafeRun ρ
-  safe-along p done = tt
-  safe-along p (then s r) = (stand.safe _ _ _ _ _ _ _ _ _ _ S p s, safe-along (one_more p s) r)
+  safe_along : {w v : World C} {m l : Meaning} {ks₀ ks : List (Call C)} {rs₀ rs : List (Answer C)} → Run w₀ m₀ ks₀ rs₀ w m → (ρ : Run w m ks rs v l) → SafeRun ρ
+  safe_along p done = tt
+  safe_along p (then s r) = (stand.safe _ _ _ _ _ _ _ _ _ _ S p s, safe_along (one_more p s) r)
 
   -- the round was opened at o, and q has closed none since
-  closes-along :
+  closes_along :
       {o o' w v : World C} {n n' m l : Meaning} {ks₀ ks₁ ks : List (Call C)} {rs₀ rs₁ rs : List (Answer C)} {b : Answer C} →
       Run w₀ m₀ ks₀ rs₀ o n → Step o n Open b o' n' → accepted b ≡ true → Run o' n' ks₁ rs₁ w m → Unclosed ks₁ rs₁ →
       (ρ : Run w m ks rs v l) → ClosesFreed o ρ
-  closes-along p t e q U done = tt
-  closes-along p t e q U (then {k = k} {a = a} s r) =
+  closes_along p t e q U done = tt
+  closes_along p t e q U (then {k = k} {a = a} s r) =
       by_test (is_settle k && accepted a)
       (λ h. let T = settled_by s h in stand.live _ _ _ _ _ _ _ _ _ _ _ _ _ _ _ _ S p t e q U T.0 T.1)
-      (λ h. closes-along p t e (one_more q s) (unclosed_more k a q U h) r)
+      (λ h. closes_along p t e (one_more q s) (unclosed_more k a q U h) r)
 
-  live-along : {w v : World C} {m l : Meaning} {ks₀ ks : List (Call C)} {rs₀ rs : List (Answer C)} → Run w₀ m₀ ks₀ rs₀ w m → (ρ : Run w m ks rs v l) → LiveRun ρ
-  live-along p done = tt
-  live-along p (then {k = k} {a = a} s r) = (
-    by_test (is_open k && accepted a) (λ h. let T = opened-by s h in closes-along p T.0 T.1 done tt r) (λ _. tt),
-    live-along (one_more p s) r,
+  live_along : {w v : World C} {m l : Meaning} {ks₀ ks : List (Call C)} {rs₀ rs : List (Answer C)} → Run w₀ m₀ ks₀ rs₀ w m → (ρ : Run w m ks rs v l) → LiveRun ρ
+  live_along p done = tt
+  live_along p (then {k = k} {a = a} s r) = (
+    by_test (is_open k && accepted a) (λ h. let T = opened_by s h in closes_along p T.0 T.1 done tt r) (λ _. tt),
+    live_along (one_more p s) r,
   )
 
 pub kept : {C : Type 0} {w v : World C} {m l : Meaning} {ks : List (Call C)} {rs : List (Answer C)} → Start w m → (ρ : Run w m ks rs v l) → Kept ρ
-kept S ρ = record { safe = safe-along S done ρ; live = live-along S done ρ; alike = stand.alike _ _ _ _ _ _ S ρ }
+kept S ρ = record { safe = safe_along S done ρ; live = live_along S done ρ; alike = stand.alike _ _ _ _ _ _ S ρ }
 
 pub ran : {C : Type 0} {w v : World C} {m l : Meaning} {ks : List (Call C)} {rs : List (Answer C)} → (ρ : Run w m ks rs v l) → Ran w m ks rs v l
 ran ρ = record { run = ρ; kept = λ S. kept S ρ }

@@ -1,7 +1,8 @@
+-- The four rules of the leaky line: lemmas from which its impl proves them. No contract cites them.
 use Rattle.std.specs.Prelude.{◌≡◌, ℕ, Bool, true, false, cond, List, [], None, Option, slice_set, refl}
 use Rattle.line.specs.Lines.{Put, Taken}
 use Rattle.line.specs.Leaky.{Queues, Wire, queue, sent_to, joins, front, later}
-use Rattle.line.specs.Rows.{putting, taking, joined_of, later_of, first_of}
+use Rattle.line.specs.Rows.{putting, taking, joined_of, later_of, first_of_lem}
 
 -- a sending, lost or not, to a card that is known or not; the other way stays
 pub put_or_lost : (gone known : Bool) (qs : Queues) (other : ℕ → List ℕ) (c n : ℕ) → Put c n (queue qs) other (queue (cond known (cond gone qs (slice_set qs c (joins (queue qs c) n))) qs)) other
@@ -14,7 +15,7 @@ put known gone qs qs' other other' c n e i = rw (e, i) (put_or_lost gone known q
 
 pub taken : (known : Bool) (qs qs' other other' : Queues) (c : ℕ) (got : Option ℕ) → got ≡ cond known (front (queue qs c)) None → qs' ≡ cond known (slice_set qs c (later (queue qs c))) qs → other' ≡ other → Taken c got (queue qs) (queue other) (queue qs') (queue other')
 taken known qs qs' other other' c got g e i =
-    rw (g, e, i) (taking (λ q. q) [] qs c (later (queue qs c)) (front (queue qs c)) (queue other) known (λ x m. later_of x (queue qs c) m) (first_of (queue qs c)))
+    rw (g, e, i) (taking (λ q. q) [] qs c (later (queue qs c)) (front (queue qs c)) (queue other) known (λ x m. later_of x (queue qs c) m) (first_of_lem (queue qs c)))
 
 -- a field of a line that changed only for a known card
 pub field : {A : Type 0} (f : Wire → A) (known : Bool) (v w : Wire) → f (cond known v w) ≡ cond known (f v) (f w)

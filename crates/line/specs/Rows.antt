@@ -44,9 +44,9 @@ module _ {A : Type 0} (read : A → List ℕ) (e : A) (row : List A) (c : ℕ) (
 pub slot_filled : (n x : ℕ) (P : Type 0) → Among x (waiting_in (Some n)) → P ⊎ (x ≡ n)
 slot_filled n x P m = ⊎_elim inr (λ z. absurd z) m
 
-pub slot-first : (o : Option ℕ) → Delivered o (waiting_in o)
-slot-first None = tt
-slot-first (Some n) = inl refl
+pub slot_first : (o : Option ℕ) → Delivered o (waiting_in o)
+slot_first None = tt
+slot_first (Some n) = inl refl
 
 -- a queue that a number joined, or left
 at_end : (x n : ℕ) (xs : List ℕ) → Among x (xs ++ (n ∷ [])) → Among x xs ⊎ (x ≡ n)
@@ -64,9 +64,9 @@ pub later_of : (x : ℕ) (xs : List ℕ) → Among x (later xs) → Among x xs
 later_of x [] m = m
 later_of x (y ∷ ys) m = inr m
 
-pub first_of : (xs : List ℕ) → Delivered (front xs) xs
-first_of [] = tt
-first_of (x ∷ xs) = inl refl
+pub first_of_lem : (xs : List ℕ) → Delivered (front xs) xs
+first_of_lem [] = tt
+first_of_lem (x ∷ xs) = inl refl
 
 -- one queue of a way changed, as lists
 pub way_set : (way : List Queue) (c : ℕ) (q : Queue) (xs : List ℕ) → c < length way → held q ≡ xs → map held (slice_set way c q) ≡ slice_set (map held way) c xs

@@ -1,5 +1,5 @@
 -- The eight card calls: what each answers and what it makes of the store. Refusals are tested in the table's order;
--- what an accepted call does is a definition of its own, named Done.
+-- what an accepted call does is a definition of its own, whose name ends in _done.
 use Rattle.std.specs.Prelude.{ℕ, ◌+◌, Bool, true, false, cond, not, ◌&&◌, List, [], ◌∷◌, length, is_some, Some, None, Ok, Err, Option, Result, ◌==◌, nat_le, nat_lt, slice_set}
 use Rattle.std.specs.List.{slice_get}
 use Rattle.machine.specs.declared.types.Cell.{Cell}

@@ -1,5 +1,5 @@
 -- The check of a block's bytes, and what it is good for. Assumes nothing.
-use Rattle.std.specs.Prelude.{◌≡◌, ℕ, ◌+◌, ◌*◌, ◌/◌, ◌%◌, ◌^◌, ◌<◌, List, length, fold, ◌≢◌, bit_or, slice_index, slice_index_or}
+use Rattle.std.specs.Prelude.{◌≡◌, ℕ, ◌+◌, ◌*◌, ◌/◌, ◌%◌, ◌^◌, ◌<◌, List, length, fold, ◌≢◌, bit_or, slice_index}
 use Rattle.octets.specs.Numbers.{Bytes}
 
 -- 32 bits rotated left by five places
@@ -19,7 +19,7 @@ pub record DifferOnce (xs ys : List ℕ) : Type 0 where
   pub long : length xs ≡ length ys
   pub place : ℕ
   pub inside : place < length xs
-  pub here : slice_index_or xs place 0 ≡ slice_index ys place → ⊥
+  pub here : slice_index xs place ≢ slice_index ys place
   pub elsewhere : (j : ℕ) → (j ≢ place) → slice_index xs j ≡ slice_index ys j
 
 -- bytes that differ in exactly one place never have the same check

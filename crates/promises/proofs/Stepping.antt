@@ -13,7 +13,7 @@ use Rattle.store.specs.Over as over
 use Rattle.laws.specs.Steps.{Sends, Replies, Attends, Step, Run, done, then, AtRest, Low, Start}
 use Rattle.laws.specs.Steps as steps
 use Rattle.laws.proofs.WholeRun.{ran}
-use Rattle.laws.proofs.OneCall.{promised, reached-start, mirrored-start}
+use Rattle.laws.proofs.OneCall.{promised, reached_start, mirrored_start}
 use Rattle.promises.specs.Acting.{Aside, ActBy, RunBy, ended, acts}
 use Rattle.promises.specs.Playing.{Silent, PlayedBy, CalledBy, Begins}
 
@@ -83,7 +83,7 @@ module _ {L : Type 0} (means : L → Meaning) (sends : L → ℕ → ℕ → L �
   called w v l m k a h = record { exact = h; promised = promised (step_of w v l m k a h) }
 
 pub begins : {C : Type 0} {w : World C} {m : Meaning} → Start w m → Begins w m
-begins s = record { reached = reached-start s; mirrored = mirrored-start s }
+begins s = record { reached = reached_start s; mirrored = mirrored_start s }
 
 none_among : {P : Type 0} (x : ℕ) (xs : List ℕ) → xs ≡ [] → Among x xs → P
 none_among x xs e h = absurd (subst (Among x) e h)

@@ -78,10 +78,10 @@ unfolding number_in
 number_none [] e = refl
 number_none (b ∷ bs) e = absurd (omega arith)
 
-pub number-some : (w : List ℕ) (o : Option ℕ) → (length w ≡ 0 → ⊥) → o ≡ digits_after 0 w → o ≡ number_in w
+pub number_some : (w : List ℕ) (o : Option ℕ) → (length w ≡ 0 → ⊥) → o ≡ digits_after 0 w → o ≡ number_in w
 unfolding number_in
-number-some [] o n e = absurd (n refl)
-number-some (b ∷ bs) o n e = e
+number_some [] o n e = absurd (n refl)
+number_some (b ∷ bs) o n e = e
 
 -- sealing values is writing a block with their bytes as its body
 pub seals : (out body : List ℕ) (number : ℕ) (vs : List Value) → length vs ≤ 18 → body ≡ flat_map value_bytes vs → writing out number (length vs) body ≡ sealing out number vs

@@ -10,9 +10,9 @@ use Rattle.machine.specs.World.{alter, alter_at, alter_all, same_colour}
 use Rattle.machine.specs.Waiting.{pale}
 use Rattle.store.specs.Model.{spare, spares}
 
-pub alter-used : (h : List Cell) (x : ℕ) (f : Record → Record) (r s : Record) → get_or h x Free ≡ Used r → s ≡ f r → set h x (Used s) ≡ alter_at h x f
+pub alter_used : (h : List Cell) (x : ℕ) (f : Record → Record) (r s : Record) → get_or h x Free ≡ Used r → s ≡ f r → set h x (Used s) ≡ alter_at h x f
 unfolding alter_at
-alter-used h x f r s e i = rw (e, i)
+alter_used h x f r s e i = rw (e, i)
 
 pub alter_free : (h : List Cell) (x : ℕ) (f : Record → Record) → get_or h x Free ≡ Free → h ≡ alter_at h x f
 unfolding alter_at
@@ -25,42 +25,42 @@ alter_past h x f l = alter_free h x f (get_or_past h x Free l)
 pub kept_free : (h : List Cell) (x : ℕ) (f : Record → Record) → get_or h x Free ≡ Free → set h x (get_or h x Free) ≡ alter_at h x f
 kept_free h x f e = set-get_or h x Free ∙ alter_free h x f e
 
-pub kept-spares : (h : List Cell) (x : ℕ) → spares (set h x (get_or h x Free)) ≡ spares h
-kept-spares h x = ap spares (set-get_or h x Free)
+pub kept_spares : (h : List Cell) (x : ℕ) → spares (set h x (get_or h x Free)) ≡ spares h
+kept_spares h x = ap spares (set-get_or h x Free)
 
 -- one cell written: the count follows that cell
-pub spares-set : (h : List Cell) (x : ℕ) (c : Cell) → x < length h → spares (set h x c) + spare (get_or h x Free) ≡ spares h + spare c
+pub spares_set : (h : List Cell) (x : ℕ) (c : Cell) → x < length h → spares (set h x c) + spare (get_or h x Free) ≡ spares h + spare c
 unfolding spares
-spares-set [] x c l = absurd (omega arith)
-spares-set (d ∷ h) zero c l = omega arith
-spares-set (d ∷ h) (suc x) c l = let i = spares-set h x c (omega arith) in omega (arith, i)
+spares_set [] x c l = absurd (omega arith)
+spares_set (d ∷ h) zero c l = omega arith
+spares_set (d ∷ h) (suc x) c l = let i = spares_set h x c (omega arith) in omega (arith, i)
 
-pub spare-most : (c : Cell) → spare c ≤ 1
-spare-most Free = omega arith
-spare-most (Used r) = elim r.waiting as (λ b. cond b 1 0 ≤ 1) [ true ↦ omega arith | false ↦ omega arith ]
+pub spare_most : (c : Cell) → spare c ≤ 1
+spare_most Free = omega arith
+spare_most (Used r) = elim r.waiting as (λ b. cond b 1 0 ≤ 1) [ true ↦ omega arith | false ↦ omega arith ]
 
-pub spares-most : (h : List Cell) → spares h ≤ length h
+pub spares_most : (h : List Cell) → spares h ≤ length h
 unfolding spares
-spares-most [] = omega arith
-spares-most (c ∷ h) = omega (arith, spares-most h, spare-most c)
+spares_most [] = omega arith
+spares_most (c ∷ h) = omega (arith, spares_most h, spare_most c)
 
 -- a cell that is not spare leaves room for one more on a list
 pub spares_room : (h : List Cell) (x : ℕ) → x < length h → spare (get_or h x Free) ≡ 0 → spares h < length h
 unfolding spares
 spares_room [] x l e = absurd (omega arith)
-spares_room (c ∷ h) zero l e = omega (arith, spares-most h, e)
-spares_room (c ∷ h) (suc x) l e = omega (arith, spares_room h x (omega arith) e, spare-most c)
+spares_room (c ∷ h) zero l e = omega (arith, spares_most h, e)
+spares_room (c ∷ h) (suc x) l e = omega (arith, spares_room h x (omega arith) e, spare_most c)
 
 -- an edit that leaves the waiting mark leaves the count
-pub spares-same : (h : List Cell) (x : ℕ) (r s : Record) → x < length h → get_or h x Free ≡ Used r → s.waiting ≡ r.waiting → spares (set h x (Used s)) ≡ spares h
-spares-same h x r s l e w = omega (arith, spares-set h x (Used s) l, ap spare e, ap {B = ℕ} (λ b. cond b 1 0) w)
+pub spares_same : (h : List Cell) (x : ℕ) (r s : Record) → x < length h → get_or h x Free ≡ Used r → s.waiting ≡ r.waiting → spares (set h x (Used s)) ≡ spares h
+spares_same h x r s l e w = omega (arith, spares_set h x (Used s) l, ap spare e, ap {B = ℕ} (λ b. cond b 1 0) w)
 
 -- whatever is written, at most one is lost
-pub spares-low : (h : List Cell) (x : ℕ) (c : Cell) → spares h ≤ spares (set h x c) + 1
+pub spares_low : (h : List Cell) (x : ℕ) (c : Cell) → spares h ≤ spares (set h x c) + 1
 unfolding spares
-spares-low [] x c = omega arith
-spares-low (d ∷ h) zero c = omega (arith, spare-most d)
-spares-low (d ∷ h) (suc x) c = omega (arith, spares-low h x c)
+spares_low [] x c = omega arith
+spares_low (d ∷ h) zero c = omega (arith, spare_most d)
+spares_low (d ∷ h) (suc x) c = omega (arith, spares_low h x c)
 
 not_false : false ≡ true → ⊥
 not_false e = let z : ◌≡◌ {A = ℕ} 0 1 = ap {B = ℕ} (λ b. cond b 1 0) e in omega arith
@@ -72,9 +72,9 @@ quiet false true e = absurd (not_false e)
 quiet false false e = refl
 
 -- a pale record is not waiting
-pub pale-spare : (m : Colour) (c : Cell) → pale m c ≡ true → spare c ≡ 0
-pale-spare m Free e = absurd (not_false e)
-pale-spare m (Used r) e = ap {B = ℕ} (λ b. cond b 1 0) (quiet (same_colour r.colour m) r.waiting e)
+pub pale_spare : (m : Colour) (c : Cell) → pale m c ≡ true → spare c ≡ 0
+pale_spare m Free e = absurd (not_false e)
+pale_spare m (Used r) e = ap {B = ℕ} (λ b. cond b 1 0) (quiet (same_colour r.colour m) r.waiting e)
 
 pub pale_not_free : (m : Colour) (c : Cell) → pale m c ≡ true → c ≡ Free → ⊥
 pale_not_free m c e f = not_false (sym (ap (λ d. pale m d) f) ∙ e)
@@ -83,10 +83,10 @@ pub pale_not_past : (m : Colour) (h : List Cell) (x : ℕ) → pale m (get_or h 
 pale_not_past m h x e l = pale_not_free m (get_or h x Free) e (get_or_past h x Free l)
 
 pub spares_grow : (m : Colour) (h : List Cell) (x : ℕ) (s : Record) → pale m (get_or h x Free) ≡ true → x < length h → s.waiting ≡ true → spares (set h x (Used s)) ≡ spares h + 1
-spares_grow m h x s e l w = omega (arith, spares-set h x (Used s) l, pale-spare m (get_or h x Free) e, ap {B = ℕ} (λ b. cond b 1 0) w)
+spares_grow m h x s e l w = omega (arith, spares_set h x (Used s) l, pale_spare m (get_or h x Free) e, ap {B = ℕ} (λ b. cond b 1 0) w)
 
 pub spares_freed : (m : Colour) (h : List Cell) (x : ℕ) → pale m (get_or h x Free) ≡ true → x < length h → spares (set h x Free) ≡ spares h + 1
-spares_freed m h x e l = omega (arith, spares-set h x Free l, pale-spare m (get_or h x Free) e)
+spares_freed m h x e l = omega (arith, spares_set h x Free l, pale_spare m (get_or h x Free) e)
 
 pub alter_all-map : (h : List Cell) (f : Record → Record) → map (alter f) h ≡ alter_all h f
 unfolding alter_all

@@ -119,7 +119,7 @@ impl<'a, C: Copy> Plan<'a, C> {
         first: u32,
         rounds: u32,
     ) -> Result<Plan<'a, C>, NotMade<'a, C>>
-        ensures { Checked (record { cells = cells.entry.now; contents = contents.old; cards = cards; first = first; rounds = rounds }) result }
+        ensures { Checked (record { cells = cells.old; contents = contents.old; cards = cards; first = first; rounds = rounds }) result }
     {
         if is_unfit(cells.len(), contents.len(), cards, first, rounds) {
             return Err(NotMade {

@@ -1,6 +1,6 @@
 -- At rest every record is marked.
-use Rattle.laws.proofs.LawsRuns.{rest-marked}
+use Rattle.laws.proofs.LawsRuns.{rest_marked}
 use Rattle.laws.proofs.at_rest_all_marked.Goals as goal
 
 pub returns : goal.returns
-returns g c = rest-marked g.row.C.Denot
+returns g c = rest_marked g.row.C.Denot

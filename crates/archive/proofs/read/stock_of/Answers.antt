@@ -6,7 +6,7 @@ use Rattle.archive.specs.Bytes.{cells_in, next_in, free_in, unname}
 use Rattle.archive.specs.Rules.{count_free}
 use Rattle.archive.specs.Reading.{cell_in, value_in, filled, card_in, chain_from, world_in}
 use Rattle.archive.proofs.Runs.{tab-length, tab-take}
-use Rattle.archive.proofs.Tables.{filled-length, spares-tab, rest-same}
+use Rattle.archive.proofs.Tables.{filled-length, spares_tab, rest_same}
 use Rattle.archive.proofs.read.stock_of.Goals as goal
 
 pub returns : goal.returns
@@ -25,11 +25,11 @@ returns g c =
     let left = c.count_free-left.ensures.is in
     let lc : length c.fill_cells.new.cells ≡ n = ap length c.fill_cells.ensures ∙ tab-length (cell_in bs) n in
     let lx : length c.fill_contents.new.contents ≡ m = ap length c.fill_contents.ensures ∙ filled-length (value_in g.C.Contents.read bs) old m in
-    let sp : spares c.fill_cells.new.cells ≡ count_free (free_in bs n) n = ap spares c.fill_cells.ensures ∙ spares-tab bs n n (omega arith) in
+    let sp : spares c.fill_cells.new.cells ≡ count_free (free_in bs n) n = ap spares c.fill_cells.ensures ∙ spares_tab bs n n (omega arith) in
     let len = c.list_chain.ensures.len in
     let cap = c.list_chain.ensures.capacity in
     record {
-      is = rest-same _ _ _ _ _ _ _ _ _ _ _ _ _ _
+      is = rest_same _ _ _ _ _ _ _ _ _ _ _ _ _ _
           (c.fill_cells.ensures ∙ ap (tab (cell_in bs)) en)
           (c.fill_contents.ensures ∙ ap (filled (value_in g.C.Contents.read bs) old) ex)
           (ap (take count) c.cards_in-cards.ensures ∙ tab-take (card_in bs) count 8 blank_card few ∙ ap (tab (card_in bs)) ec)

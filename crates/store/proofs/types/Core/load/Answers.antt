@@ -1,12 +1,12 @@
 use Rattle.std.proofs.Common.{rules}
-use Rattle.store.proofs.Cards.{card-here, card-put}
+use Rattle.store.proofs.Cards.{card_here, card_put}
 use Rattle.store.proofs.types.Core.load.Goals as goal
 
 pub returns-in-Some : goal.returns-in-Some
-returns-in-Some g c = record { does = search (rules, card-here); sound = c.requires }
+returns-in-Some g c = record { does = search (rules, card_here); sound = c.requires }
 
 pub returns-in_default-named : goal.returns-in_default-named
-returns-in_default-named g c = record { does = search (rules, card-here); sound = c.requires }
+returns-in_default-named g c = record { does = search (rules, card_here); sound = c.requires }
 
 pub returns : goal.returns
-returns g c = record { does = search (rules, card-here, card-put); sound = search rules }
+returns g c = record { does = search (rules, card_here, card_put); sound = search rules }

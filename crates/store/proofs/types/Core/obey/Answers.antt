@@ -3,15 +3,15 @@ use Rattle.machine.specs.World.{alter_card, with_cards}
 use Rattle.machine.specs.Waiting.{put_all}
 use Rattle.machine.specs.Rounds.{heed}
 use Rattle.store.specs.Model.{model}
-use Rattle.store.proofs.Cards.{card-here, card-put}
+use Rattle.store.proofs.Cards.{card_here, card_put}
 use Rattle.store.proofs.Attending.{obey_gather, obey_plain}
 use Rattle.store.proofs.types.Core.obey.Goals as goal
 
 pub returns-then-n-eq3 : goal.returns-then-n-eq3
 returns-then-n-eq3 g c =
     let s = c.args.self.now in
-    let p : take s.count (set s.cards c.args.c c.heed.result) ≡ alter_card (take s.count s.cards) c.args.c (heed s.state.marked c.args.n) = card-put s.count s.cards c.args.c (heed s.state.marked c.args.n) c.heed.result c.requires.1 c.heed.ensures in
-    let q = card-here s.count s.cards c.args.c c.requires.1 in
+    let p : take s.count (set s.cards c.args.c c.heed.result) ≡ alter_card (take s.count s.cards) c.args.c (heed s.state.marked c.args.n) = card_put s.count s.cards c.args.c (heed s.state.marked c.args.n) c.heed.result c.requires.1 c.heed.ensures in
+    let q = card_here s.count s.cards c.args.c c.requires.1 in
     record {
       does = c.put_all.ensures.does ∙ ap (λ k. put_all (with_cards (model s) (take s.count (set s.cards c.args.c c.heed.result))) k.places) (sym q) ∙ obey_gather (model s) c.args.c c.args.n _ c.if-n-eq3.true p;
       sound = c.put_all.ensures.sound;
@@ -20,5 +20,5 @@ returns-then-n-eq3 g c =
 pub returns-else-n-eq3 : goal.returns-else-n-eq3
 returns-else-n-eq3 g c =
     let s = c.args.self.now in
-    let p : take s.count (set s.cards c.args.c c.heed.result) ≡ alter_card (take s.count s.cards) c.args.c (heed s.state.marked c.args.n) = card-put s.count s.cards c.args.c (heed s.state.marked c.args.n) c.heed.result c.requires.1 c.heed.ensures in
+    let p : take s.count (set s.cards c.args.c c.heed.result) ≡ alter_card (take s.count s.cards) c.args.c (heed s.state.marked c.args.n) = card_put s.count s.cards c.args.c (heed s.state.marked c.args.n) c.heed.result c.requires.1 c.heed.ensures in
     record { does = obey_plain (model s) c.args.c c.args.n _ c.if-n-eq3.false p; sound = search rules }

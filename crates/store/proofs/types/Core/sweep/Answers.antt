@@ -2,14 +2,14 @@ use Rattle.std.proofs.Common.{◌≡◌, ◌+◌, ◌<◌, length, get_or, set, 
 use Rattle.machine.specs.World.{free_at}
 use Rattle.machine.specs.declared.types.Cell.TheVariants.{Free}
 use Rattle.store.specs.Model.{spares, given, within, sweeping}
-use Rattle.store.proofs.Cells.{spares_freed, spares_room, pale-spare}
+use Rattle.store.proofs.Cells.{spares_freed, spares_room, pale_spare}
 use Rattle.store.proofs.types.Core.sweep.Goals as goal
 
 pub push-requires : goal.push-requires
 push-requires g c =
     let s = c.args.self.now in
     let lt : s.state.sweep < length s.cells.now = omega (arith, ap sweeping c.in-Sweep.is) in
-    omega (arith, spares_room s.cells.now s.state.sweep lt (pale-spare s.state.marked (get_or s.cells.now s.state.sweep Free) (sym c.if-not-go.ensures)))
+    omega (arith, spares_room s.cells.now s.state.sweep lt (pale_spare s.state.marked (get_or s.cells.now s.state.sweep Free) (sym c.if-not-go.ensures)))
 
 pub returns : goal.returns
 unfolding free_at
