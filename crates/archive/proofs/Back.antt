@@ -7,8 +7,7 @@ use Rattle.octets.specs.Block.{block_of, check_right}
 use Rattle.line.specs.Lines.{Among}
 use Rattle.laws.specs.Steps.{Distinct}
 use Rattle.machine.specs.declared.types.Record.{Record}
-use Rattle.machine.specs.declared.types.Cell.{Cell}
-use Rattle.machine.specs.declared.types.Cell.TheVariants.{Free, Used}
+use Rattle.machine.specs.World.{Cell}
 use Rattle.machine.specs.declared.types.Colour.TheVariants.{Zero}
 use Rattle.machine.specs.World.{World, Name, see, at, used, serial_at, card, place, named, read_all, newborn, blank_card}
 use Rattle.store.proofs.Cards.{read_four}
@@ -39,8 +38,8 @@ unname_told w None = refl
 unname_told w (Some y) = here (at w y)
   where
     here : (c : Cell) → unname (see (λ r. y + 1) 0 c) ≡ see (λ r. Some y) None c
-    here Free = refl
-    here (Used r) =
+    here None = refl
+    here (Some r) =
         let t : eqb (y + 1) 0 ≡ false = ne_eqb (y + 1) 0 (λ e. omega arith) in
         let m : (y + 1) - 1 ≡ y = omega arith in
         rw (t, m)
@@ -133,16 +132,16 @@ module _ {C : Type 0} (code : ℕ) (form : C → List ℕ) (read : List ℕ → 
   pub record Here (k : ℕ) : Type 0 where
     pub rec : Record
     pub val : C
-    pub cell : at w k ≡ Used rec
+    pub cell : at w k ≡ Some rec
     pub content : slice_get w.contents k ≡ Some val
     pub low : 1 ≤ rec.serial
     pub high : rec.serial < w.next
     pub four : length rec.links ≡ 4
     pub says : UsedSays code form sixteen small w G k rec val
 
-  cell_is : (k : ℕ) → k < n → (c : Cell) → at w k ≡ c → ((at w k ≡ Free) × FreeSays code form sixteen small w G k) ⊎ Here k
-  cell_is k l Free e = inl (e, free_says code form sixteen small w G k l e)
-  cell_is k l (Used r) e =
+  cell_is : (k : ℕ) → k < n → (c : Cell) → at w k ≡ c → ((at w k ≡ None) × FreeSays code form sixteen small w G k) ⊎ Here k
+  cell_is k l None e = inl (e, free_says code form sixteen small w G k l e)
+  cell_is k l (Some r) e =
       let u : used w k ≡ true = ap (see (λ r. true) false) e in
       let s : serial_at w k ≡ r.serial = ap (see (λ r. r.serial) 0) e in
       let x = nth_some w.contents k (omega (arith, G.tables)) in
@@ -160,7 +159,7 @@ module _ {C : Type 0} (code : ℕ) (form : C → List ℕ) (read : List ℕ → 
         says = used_says code form sixteen small w G k r x.0 l e x.1 (omega arith);
       })
 
-  cases : (k : ℕ) → k < n → ((at w k ≡ Free) × FreeSays code form sixteen small w G k) ⊎ Here k
+  cases : (k : ℕ) → k < n → ((at w k ≡ None) × FreeSays code form sixteen small w G k) ⊎ Here k
   cases k l = cell_is k l (at w k) refl
 
   not_zero : (k : ℕ) (H : Here k) → serial_in bs k ≡ 0 → ⊥
@@ -169,14 +168,14 @@ module _ {C : Type 0} (code : ℕ) (form : C → List ℕ) (read : List ℕ → 
   is_used : (k : ℕ) → Here k → used w k ≡ true
   is_used k H = ap (see (λ r. true) false) H.cell
 
-  is_free : (k : ℕ) → at w k ≡ Free → used w k ≡ false
+  is_free : (k : ℕ) → at w k ≡ None → used w k ≡ false
   is_free k e = ap (see (λ r. true) false) e
 
   name_ok : (v : Name) → name_right bs n (told w.cells v) ≡ true
   name_ok None = sym (name_none bs n 0 refl)
   name_ok (Some y) =
       elim (cases_lt y n) [
-        | inr l ↦ ap (name_right bs n) (ap (see (λ r. y + 1) 0) (get_or_past w.cells y Free l)) ∙ sym (name_none bs n 0 refl)
+        | inr l ↦ ap (name_right bs n) (ap (see (λ r. y + 1) 0) (get_or_past w.cells y None l)) ∙ sym (name_none bs n 0 refl)
         | inl l ↦ elim (cases y l) [
           | inl p ↦ ap (name_right bs n) (ap (see (λ r. y + 1) 0) p.0) ∙ sym (name_none bs n 0 refl)
           | inr H ↦
@@ -344,14 +343,14 @@ module _ {C : Type 0} (code : ℕ) (form : C → List ℕ) (read : List ℕ → 
             let d = name 3 (omega arith) in
             let f = read_four w ls H.four in
             let e : links_of bs k ≡ read_all w ls = cc in
-            ap (rested_cell w) H.cell ∙ ap (λ s. Used (newborn s (read_all w ls) Zero)) (sym H.says.serial) ∙ ap (λ l. Used (newborn (serial_in bs k) l Zero)) (sym e)
+            ap (rested_cell w) H.cell ∙ ap (λ s. Some (newborn s (read_all w ls) Zero)) (sym H.says.serial) ∙ ap (λ l. Some (newborn (serial_in bs k) l Zero)) (sym e)
             ∙ sym (cell_in_used bs k (not_zero k H))
       ]
 
   cells_same : tab (cell_in bs) (cells_in bs) ≡ map (rested_cell w) w.cells
   cells_same =
       ap (tab (cell_in bs)) (cells_read code form sixteen small w G)
-      ∙ sym (tab_is (cell_in bs) n Free (map (rested_cell w) w.cells) (length-map w.cells (rested_cell w)) (λ k l. get_or-map (rested_cell w) w.cells k Free Free l ∙ cell_same k l))
+      ∙ sym (tab_is (cell_in bs) n None (map (rested_cell w) w.cells) (length-map w.cells (rested_cell w)) (λ k l. get_or-map (rested_cell w) w.cells k None None l ∙ cell_same k l))
 
   value_same : (k : ℕ) → k < n → value_in read bs k ≡ value_of w k
   value_same k l =

@@ -1,18 +1,17 @@
 -- The bytes of one cell.
-use Rattle.std.proofs.Common.{◌≡◌, ℕ, ◌+◌, ◌*◌, List, length, Some, sym, ap, ◌∙◌, add-one}
+use Rattle.std.proofs.Common.{◌≡◌, ℕ, ◌+◌, ◌*◌, List, length, Some, sym, ap, ◌∙◌, add-one, None}
 use Rattle.std.specs.List.{slice_get}
-use Rattle.machine.specs.declared.types.Cell.TheVariants.{Free, Used}
 use Rattle.machine.specs.declared.types.Record.{Record}
 use Rattle.machine.specs.World.{World, at}
 use Rattle.archive.specs.Layout.{after, told_free, link_bytes, record_bytes, free_bytes, cell_bytes, part_of, archive_block, archive_of, blocks_for}
 use Rattle.archive.specs.Runs.{run}
 use Rattle.octets.specs.Block.{block_of}
 
-pub cell_free : {C : Type 0} (form : C → List ℕ) (w : World C) (k : ℕ) → at w k ≡ Free → free_bytes (told_free (length w.cells) (after w.free k)) ≡ cell_bytes form w k
+pub cell_free : {C : Type 0} (form : C → List ℕ) (w : World C) (k : ℕ) → at w k ≡ None → free_bytes (told_free (length w.cells) (after w.free k)) ≡ cell_bytes form w k
 unfolding cell_bytes
 cell_free form w k e = rw e
 
-pub cell_used : {C : Type 0} (form : C → List ℕ) (w : World C) (k : ℕ) (r : Record) (x : C) → at w k ≡ Used r → slice_get w.contents k ≡ Some x → record_bytes r.serial (form x) (link_bytes w.cells r.links) ≡ cell_bytes form w k
+pub cell_used : {C : Type 0} (form : C → List ℕ) (w : World C) (k : ℕ) (r : Record) (x : C) → at w k ≡ Some r → slice_get w.contents k ≡ Some x → record_bytes r.serial (form x) (link_bytes w.cells r.links) ≡ cell_bytes form w k
 unfolding cell_bytes
 cell_used form w k r x e f = rw (e, f)
 

@@ -5,7 +5,6 @@ use Rattle.std.proofs.lemmas.Bool.{cases_eq, cases_lt, eq-eqb, ne_eqb, lt-ltb, e
 use Rattle.std.proofs.lemmas.List.{drop-drop, take_all, length-drop, length-take-le}
 use Rattle.octets.specs.Numbers.{le16, un16, Bytes}
 use Rattle.octets.specs.Block.{block_of, check_right}
-use Rattle.machine.specs.declared.types.Cell.TheVariants.{Free, Used}
 use Rattle.machine.specs.declared.types.Colour.TheVariants.{Zero}
 use Rattle.machine.specs.World.{World, newborn}
 use Rattle.archive.specs.Runs.{run, every}
@@ -98,7 +97,7 @@ module _ {C : Type 0} (code : ℕ) (form : C → List ℕ) (read : List ℕ → 
         | inr z ↦
             let r = name_tells bs n v e z in
             let t : eqb v 0 ≡ false = ne_eqb v 0 z in
-            let a : get_or w.cells (v - 1) Free ≡ Used (newborn (serial_in bs (v - 1)) (links_of bs (v - 1)) Zero) = world-at read bs old (v - 1) (omega (arith, r.0)) ∙ cell_in_used bs (v - 1) r.1 in
+            let a : get_or w.cells (v - 1) None ≡ Some (newborn (serial_in bs (v - 1)) (links_of bs (v - 1)) Zero) = world-at read bs old (v - 1) (omega (arith, r.0)) ∙ cell_in_used bs (v - 1) r.1 in
             rw (t, a) (omega arith)
       ]
 

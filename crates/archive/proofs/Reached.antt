@@ -1,7 +1,7 @@
 -- A store that a run of calls leads to can be archived.
 use Rattle.std.proofs.Common.{◌≡◌, List, length, refl, ◌∙◌, arith}
 use Rattle.machine.specs.declared.types.Call.{Call}
-use Rattle.machine.specs.declared.types.Answer.{Answer}
+use Rattle.machine.specs.Acts.{Answer}
 use Rattle.machine.specs.World.{World}
 use Rattle.line.specs.Lines.{Meaning}
 use Rattle.laws.specs.Steps.{Run, done, then}

@@ -6,7 +6,6 @@ use Rattle.std.proofs.lemmas.List.{get_or_past, length-replicate}
 use Rattle.line.specs.Lines.{Among}
 use Rattle.laws.specs.Steps.{AtRest, Distinct}
 use Rattle.machine.specs.declared.types.Record.{Record}
-use Rattle.machine.specs.declared.types.Cell.TheVariants.{Free, Used}
 use Rattle.machine.specs.declared.types.Card.{Card}
 use Rattle.machine.specs.declared.types.Colour.TheVariants.{Zero}
 use Rattle.machine.specs.World.{World, Name, see, at, used, serial_at, link, card, place, blank_card, newborn}
@@ -79,12 +78,12 @@ module _ {C : Type 0} (code : ℕ) (read : List ℕ → Option C) (bs : List ℕ
   pub record Full (x : ℕ) : Type 0 where
     pub low : x < n
     pub serial : serial_in bs x ≡ 0 → ⊥
-    pub here : at w x ≡ Used (record_in x)
+    pub here : at w x ≡ Some (record_in x)
 
-  cell_cases : (x : ℕ) → (at w x ≡ Free) ⊎ Full x
+  cell_cases : (x : ℕ) → (at w x ≡ None) ⊎ Full x
   cell_cases x =
       elim (cases_lt x n) [
-        | inr l ↦ inl (get_or_past w.cells x Free (omega (arith, world_long read bs old)))
+        | inr l ↦ inl (get_or_past w.cells x None (omega (arith, world_long read bs old)))
         | inl l ↦ elim (cases_eq (serial_in bs x) 0) [
           | inl z ↦ inl (world-at read bs old x l ∙ cell_in_free bs x z)
           | inr z ↦ inr (record { low = l; serial = z; here = world-at read bs old x l ∙ cell_in_used bs x z })

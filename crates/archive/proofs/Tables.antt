@@ -2,7 +2,7 @@
 use Rattle.std.proofs.Common.{◌≡◌, ℕ, zero, suc, ◌+◌, ◌<◌, ◌≤◌, true, false, cond, eqb, ltb, List, [], ◌∷◌, ◌++◌, length, Some, None, Option, sym, refl, ap, ◌∙◌, inl, inr, add-one, arith}
 use Rattle.std.proofs.lemmas.Bool.{eq-eqb, ne_eqb, lt-ltb, cases_Bool}
 use Rattle.std.proofs.lemmas.List.{length-set}
-use Rattle.machine.specs.declared.types.Cell.{Cell}
+use Rattle.machine.specs.World.{Cell}
 use Rattle.machine.specs.declared.types.Card.{Card}
 use Rattle.store.specs.Model.{spare, spares}
 use Rattle.archive.specs.Runs.{run, tab}

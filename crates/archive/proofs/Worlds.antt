@@ -4,7 +4,6 @@ use Rattle.std.specs.List.{slice_get}
 use Rattle.std.proofs.lemmas.Bool.{eq-eqb, ne_eqb, cases_eq}
 use Rattle.std.proofs.lemmas.Option.{slice_get-get_or}
 use Rattle.std.proofs.lemmas.List.{get_or-set_same, get_or-set_other, length-set}
-use Rattle.machine.specs.declared.types.Cell.TheVariants.{Free, Used}
 use Rattle.machine.specs.declared.types.Colour.TheVariants.{Zero}
 use Rattle.machine.specs.World.{at, card, newborn, blank_card}
 use Rattle.archive.specs.Runs.{tab}
@@ -14,11 +13,11 @@ use Rattle.archive.specs.Reading.{links_of, cell_in, value_in, set_if, filled, p
 use Rattle.archive.proofs.Runs.{tab-length, tab-at}
 use Rattle.archive.proofs.Tables.{filled-length}
 
-pub cell_in_free : (bs : List ℕ) (k : ℕ) → serial_in bs k ≡ 0 → cell_in bs k ≡ Free
+pub cell_in_free : (bs : List ℕ) (k : ℕ) → serial_in bs k ≡ 0 → cell_in bs k ≡ None
 unfolding cell_in
 cell_in_free bs k e = let t : eqb (serial_in bs k) 0 ≡ true = eq-eqb (serial_in bs k) 0 e in rw t
 
-pub cell_in_used : (bs : List ℕ) (k : ℕ) → (serial_in bs k ≡ 0 → ⊥) → cell_in bs k ≡ Used (newborn (serial_in bs k) (links_of bs k) Zero)
+pub cell_in_used : (bs : List ℕ) (k : ℕ) → (serial_in bs k ≡ 0 → ⊥) → cell_in bs k ≡ Some (newborn (serial_in bs k) (links_of bs k) Zero)
 unfolding cell_in
 cell_in_used bs k e = let t : eqb (serial_in bs k) 0 ≡ false = ne_eqb (serial_in bs k) 0 e in rw t
 
@@ -83,7 +82,7 @@ module _ {C : Type 0} (read : List ℕ → Option C) (bs : List ℕ) (old : List
   world_count = ap length world_cards ∙ tab-length (card_in bs) (cards_in bs)
 
   pub world-at : (k : ℕ) → k < cells_in bs → at (world_in read bs old) k ≡ cell_in bs k
-  world-at k l = ap (λ h. get_or h k Free) world_cells ∙ tab-at (cell_in bs) (cells_in bs) k Free l
+  world-at k l = ap (λ h. get_or h k None) world_cells ∙ tab-at (cell_in bs) (cells_in bs) k None l
 
   pub world_card : (c : ℕ) → c < cards_in bs → card (world_in read bs old) c ≡ card_with (places_of bs c) (rounds_in bs)
   unfolding card_in

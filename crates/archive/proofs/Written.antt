@@ -6,8 +6,7 @@ use Rattle.std.proofs.lemmas.List.{drop-drop, take_all, take_at, drop_at, length
 use Rattle.octets.specs.Numbers.{le16, un16}
 use Rattle.octets.specs.Block.{block_of}
 use Rattle.machine.specs.declared.types.Record.{Record}
-use Rattle.machine.specs.declared.types.Cell.{Cell}
-use Rattle.machine.specs.declared.types.Cell.TheVariants.{Free, Used}
+use Rattle.machine.specs.World.{Cell}
 use Rattle.machine.specs.World.{World, Name, see, at, card, place}
 use Rattle.archive.specs.Runs.{run}
 use Rattle.archive.specs.Layout.{told, told_free, after, link_bytes, form_of, record_bytes, free_bytes, cell_bytes, place_bytes, front_bytes, front_of, head_bytes, part_of, archive_block, archive_of, blocks_for}
@@ -21,13 +20,13 @@ pub told_most : (h : List Cell) (v : Name) → told h v ≤ length h
 told_most h None = omega arith
 told_most h (Some x) =
     elim (cases_lt x (length h)) [
-      | inr l ↦ rw (get_or_past h x Free l) (omega arith)
-      | inl l ↦ here (get_or h x Free) l
+      | inr l ↦ rw (get_or_past h x None l) (omega arith)
+      | inl l ↦ here (get_or h x None) l
     ]
   where
     here : (c : Cell) → x < length h → see (λ r. x + 1) 0 c ≤ length h
-    here Free l = omega arith
-    here (Used r) l = omega arith
+    here None l = omega arith
+    here (Some r) l = omega arith
 
 pub free_most : (n : ℕ) (v : Name) → told_free n v ≤ n
 free_most n None = omega arith
@@ -72,8 +71,8 @@ module _ {C : Type 0} (code : ℕ) (form : C → List ℕ) (sixteen : (x : C) �
   cell_long k = here (at w k)
     where
       here : (c : Cell) → length (see (λ r. record_bytes r.serial (form_of form (slice_get w.contents k)) (link_bytes w.cells r.links)) (free_bytes (told_free (length w.cells) (after w.free k))) c) ≡ 28
-      here Free = refl
-      here (Used r) = record_long r.serial (form_of form (slice_get w.contents k)) w.cells r.links (form_long form sixteen (slice_get w.contents k))
+      here None = refl
+      here (Some r) = record_long r.serial (form_of form (slice_get w.contents k)) w.cells r.links (form_long form sixteen (slice_get w.contents k))
 
   place_long : (c : ℕ) → length (place_bytes w c) ≡ 16
   unfolding place_bytes run
@@ -184,7 +183,7 @@ module _ {C : Type 0} (code : ℕ) (form : C → List ℕ) (sixteen : (x : C) �
     pub rest : is_blank (rest_in bs k) ≡ true
     pub next : link_in bs k 0 ≡ told_free n (after w.free k)
 
-  pub free_says : (k : ℕ) → k < n → at w k ≡ Free → FreeSays k
+  pub free_says : (k : ℕ) → k < n → at w k ≡ None → FreeSays k
   unfolding serial_in form_in rest_in link_in
   free_says k l e =
       let v : ℕ = told_free n (after w.free k) in
@@ -203,7 +202,7 @@ module _ {C : Type 0} (code : ℕ) (form : C → List ℕ) (sixteen : (x : C) �
     pub form_is : form_in bs k ≡ form x
     pub link_is : (i : ℕ) → i < 4 → link_in bs k i ≡ told w.cells (get_or r.links i None)
 
-  pub used_says : (k : ℕ) (r : Record) (x : C) → k < n → at w k ≡ Used r → slice_get w.contents k ≡ Some x → r.serial < 4294967296 → UsedSays k r x
+  pub used_says : (k : ℕ) (r : Record) (x : C) → k < n → at w k ≡ Some r → slice_get w.contents k ≡ Some x → r.serial < 4294967296 → UsedSays k r x
   unfolding serial_in form_in link_in
   used_says k r x l e q low =
       let L : List ℕ = link_bytes w.cells r.links in

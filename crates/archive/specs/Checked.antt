@@ -1,7 +1,7 @@
 -- What the check before a reading says.
 use Rattle.std.specs.Prelude.{◌≡◌, ℕ, List, length, Some, None, Ok, Err, Option, Result}
 use Rattle.refusal.specs.declared.kinds.Refusal.{Refusal}
-use Rattle.machine.specs.declared.types.Cell.{Cell}
+use Rattle.machine.specs.World.{Cell}
 use Rattle.store.specs.declared.plan.Why.{Why}
 use Rattle.store.specs.declared.plan.Why.TheVariants.{Refused, NoMemory}
 use Rattle.store.specs.declared.plan.NotMade.{NotMade}

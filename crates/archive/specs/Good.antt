@@ -1,11 +1,10 @@
 -- A store that an archive can hold, as every store is that a run of calls leads to; and such a store at rest.
-use Rattle.std.specs.Prelude.{◌≡◌, ℕ, ◌<◌, ◌≤◌, true, false, List, map, length, None, Option}
+use Rattle.std.specs.Prelude.{◌≡◌, ℕ, ◌<◌, ◌≤◌, true, false, List, map, length, None, Option, Some}
 use Rattle.std.specs.List.{slice_get}
 use Rattle.line.specs.Lines.{Among}
 use Rattle.laws.specs.Steps.{Distinct}
 use Rattle.machine.specs.declared.types.Colour.TheVariants.{Zero}
-use Rattle.machine.specs.declared.types.Cell.{Cell}
-use Rattle.machine.specs.declared.types.Cell.TheVariants.{Free, Used}
+use Rattle.machine.specs.World.{Cell}
 use Rattle.machine.specs.declared.types.Card.{Card}
 use Rattle.machine.specs.World.{World, see, at, used, serial_at, links_at, card, read_all, newborn}
 use Rattle.archive.specs.Reading.{filled, card_with, rest_with}
@@ -41,8 +40,8 @@ pub record Good {C : Type 0} (w : World C) : Type 0 where
 
 -- a cell at rest: its names as they are read, its marks as after creation
 abbrev pub rested_cell : {C : Type 0} → World C → Cell → Cell
-rested_cell w Free = Free
-rested_cell w (Used r) = Used (newborn r.serial (read_all w r.links) Zero)
+rested_cell w None = None
+rested_cell w (Some r) = Some (newborn r.serial (read_all w r.links) Zero)
 
 abbrev pub rested_card : {C : Type 0} → World C → Card → Card
 rested_card w k = card_with (read_all w k.places) w.rounds

@@ -4,7 +4,7 @@ use Rattle.octets.specs.Numbers.{Bytes}
 use Rattle.machine.specs.World.{World}
 use Rattle.line.specs.Lines.{Meaning}
 use Rattle.machine.specs.declared.types.Call.{Call}
-use Rattle.machine.specs.declared.types.Answer.{Answer}
+use Rattle.machine.specs.Acts.{Answer}
 use Rattle.laws.specs.Steps.{AtRest, Start, Run}
 use Rattle.archive.specs.Layout.{archive_of}
 use Rattle.archive.specs.Rules.{refusal_of}

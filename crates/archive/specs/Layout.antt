@@ -3,15 +3,14 @@ use Rattle.std.specs.Prelude.{ℕ, zero, suc, ◌+◌, ◌-◌, ◌*◌, ◌/◌
 use Rattle.std.specs.List.{slice_get}
 use Rattle.octets.specs.Numbers.{le16, le32}
 use Rattle.octets.specs.Block.{block_of}
-use Rattle.machine.specs.declared.types.Cell.{Cell}
-use Rattle.machine.specs.declared.types.Cell.TheVariants.{Free}
+use Rattle.machine.specs.World.{Cell}
 use Rattle.machine.specs.World.{World, Name, see, at, card}
 use Rattle.archive.specs.Runs.{run}
 
 -- a cell number is written plus one, and 0 is none; the name of a free cell, or past the table, is written as none
 abbrev pub told : List Cell → Name → ℕ
 told h None = 0
-told h (Some x) = see (λ r. x + 1) 0 (slice_index_or h x Free)
+told h (Some x) = see (λ r. x + 1) 0 (slice_index_or h x None)
 
 -- a free cell's number, the table having n cells
 abbrev pub told_free : ℕ → Name → ℕ

@@ -2,8 +2,7 @@
 use Rattle.std.specs.Prelude.{ℕ, zero, suc, ◌+◌, ◌*◌, Bool, false, cond, List, [], ◌∷◌, replicate, Some, None, Option, ◌==◌, slice_set}
 use Rattle.machine.specs.declared.types.Colour.TheVariants.{Zero}
 use Rattle.machine.specs.declared.types.Phase.TheVariants.{Rest}
-use Rattle.machine.specs.declared.types.Cell.{Cell}
-use Rattle.machine.specs.declared.types.Cell.TheVariants.{Free, Used}
+use Rattle.machine.specs.World.{Cell}
 use Rattle.machine.specs.declared.types.Card.{Card}
 use Rattle.machine.specs.World.{World, Name, newborn}
 use Rattle.archive.specs.Runs.{tab}
@@ -14,7 +13,7 @@ abbrev pub links_of : List ℕ → ℕ → List Name
 links_of bs k = unname (link_in bs k 0) ∷ unname (link_in bs k 1) ∷ unname (link_in bs k 2) ∷ unname (link_in bs k 3) ∷ []
 
 unfoldable pub cell_in : List ℕ → ℕ → Cell
-cell_in bs k = cond (serial_in bs k == 0) Free (Used (newborn (serial_in bs k) (links_of bs k) Zero))
+cell_in bs k = cond (serial_in bs k == 0) None (Some (newborn (serial_in bs k) (links_of bs k) Zero))
 
 -- the contents of a cell with a record
 unfoldable pub value_in : {C : Type 0} → (List ℕ → Option C) → List ℕ → ℕ → Option C

@@ -104,10 +104,10 @@ pub(crate) fn cell_in(bytes: &[u8], n: usize, k: usize) -> Cell
 {
     let serial = serial_in(bytes, n, k);
     if serial == 0 {
-        return Cell::Free;
+        return None;
     }
     let links = links_of(bytes, n, k);
-    Cell::Used(Record {
+    Some(Record {
         serial,
         links,
         colour: Colour::Zero,

@@ -28,8 +28,8 @@ pub(crate) fn told(cells: &[Cell], name: Option<u16>) -> u16
         return 0;
     }
     match cells[x as usize] {
-        Cell::Free => 0,
-        Cell::Used(_) => x + 1,
+        None => 0,
+        Some(_) => x + 1,
     }
 }
 
@@ -95,11 +95,11 @@ pub(crate) fn write_cell<C: Contents>(out: &mut [u8], store: &Store<'_, C>, k: u
 {
     let cells = store.cells();
     match cells[k] {
-        Cell::Free => {
+        None => {
             let next = after(store, k as u16);
             write_free(out, told_free(cells.len(), next));
         }
-        Cell::Used(r) => {
+        Some(r) => {
             let links = link_bytes(cells, r.links);
             let form = store.contents()[k].form();
             write_record(out, r.serial, &form, &links);

@@ -153,7 +153,7 @@ mod tests {
 
     // Reads an archive of two cells and writes the store again.
     fn again(heap: Global, bytes: &[u8], blank: Effect, out: &mut [u8]) -> bool {
-        let mut cells = [Cell::Free; 2];
+        let mut cells = [None; 2];
         let mut contents = [blank; 2];
         let Ok(reading) = Reading::check(heap, bytes, &mut cells, &mut contents) else {
             return false;
@@ -171,7 +171,7 @@ mod tests {
         let Ok(blank) = Effect::new(64, 600) else {
             return Err(Fail::new("relay 64 was refused"));
         };
-        let mut cells = [Cell::Free; 2];
+        let mut cells = [None; 2];
         let mut contents = [blank; 2];
         let Ok(plan) = Plan::check(rt.alloc(), &mut cells, &mut contents, 1, 1, 0) else {
             return Err(Fail::new("no store was made"));
@@ -190,7 +190,7 @@ mod tests {
         let Ok(blank) = Event::new(7, 1, 1, 1) else {
             return Err(Fail::new("device 1 was refused"));
         };
-        let mut cells = [Cell::Free; 3];
+        let mut cells = [None; 3];
         let mut contents = [blank; 3];
         let Ok(plan) = Plan::check(rt.alloc(), &mut cells, &mut contents, 2, 5, 3) else {
             return Err(Fail::new("no store was made"));
@@ -199,7 +199,7 @@ mod tests {
         let mut out = [0u8; 1024];
         assert!(rt; write_archive(&store, &mut out).is_ok());
         out[600] = 1;
-        let mut cells = [Cell::Free; 3];
+        let mut cells = [None; 3];
         let mut contents = [blank; 3];
         match Reading::check(rt.alloc(), &out, &mut cells, &mut contents) {
             Ok(_) => Err(Fail::new("a changed byte was not found")),

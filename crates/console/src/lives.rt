@@ -95,7 +95,7 @@ fn with_store<C: Told, S: Source>(
     index: C,
 ) -> anyhow::Result<Option<Wanted>> {
     let heap = desk.rt.alloc();
-    let mut cells = table(heap, Cell::Free, size.cells)?;
+    let mut cells = table(heap, None, size.cells)?;
     let mut contents = table(heap, index, size.cells)?;
     let checked = Plan::check(
         heap,

@@ -64,7 +64,7 @@ fn refused<C: Copy>(heap: Global, size: Size, index: C) -> anyhow::Result<Option
     if size.cells > MOST_CELLS {
         return Ok(Some(Refusal::OutOfRange));
     }
-    let mut cells = table(heap, Cell::Free, size.cells)?;
+    let mut cells = table(heap, None, size.cells)?;
     let mut contents = table(heap, index, size.cells)?;
     let checked = Plan::check(
         heap,

@@ -161,8 +161,8 @@ fn show_update(rt: &HostRuntime, update: Update) -> anyhow::Result<()> {
 
 fn show_cell(rt: &HostRuntime, cell: &Cell) -> anyhow::Result<()> {
     match cell {
-        Cell::Free => println!(rt; " free")?,
-        Cell::Used(record) => show_record(rt, record)?,
+        None => println!(rt; " free")?,
+        Some(record) => show_record(rt, record)?,
     }
     Ok(())
 }

@@ -1,10 +1,9 @@
 -- (c): the relation holds at the start, every call keeps it and answers alike, and so do whole runs.
-use Rattle.std.proofs.Common.{◌≡◌, ℕ, zero, suc, ◌<◌, ◌≤◌, Bool, true, false, cond, not, ◌&&◌, eqb, ltb, leb, ◌⊎◌, List, [], ◌∷◌, length, get_or, is_some, Some, None, Option, sym, refl, ap, ◌∙◌, subst, inl, inr, arith}
+use Rattle.std.proofs.Common.{◌≡◌, ℕ, zero, suc, ◌<◌, ◌≤◌, Bool, true, false, cond, not, ◌&&◌, eqb, ltb, leb, ◌⊎◌, List, [], ◌∷◌, length, get_or, is_some, Some, None, Option, sym, refl, ap, ◌∙◌, subst, inl, inr, arith, Err}
 use Rattle.std.proofs.lemmas.Bool.{false≢true}
 use Rattle.std.proofs.lemmas.Bool.Decides.{nat_tests}
 use Rattle.std.specs.List.{slice_get}
-use Rattle.machine.specs.declared.types.Cell.{Cell}
-use Rattle.machine.specs.declared.types.Cell.TheVariants.{Free}
+use Rattle.machine.specs.World.{Cell}
 use Rattle.refusal.specs.declared.kinds.Refusal.{Refusal}
 use Rattle.refusal.specs.declared.kinds.Refusal.TheVariants.{NoCard, NoPlace, NoLink, UpdateInHand, Exhausted}
 use Rattle.machine.specs.declared.types.Update.{Update}
@@ -12,8 +11,7 @@ use Rattle.machine.specs.declared.types.Stage.{Stage}
 use Rattle.machine.specs.declared.types.Stage.TheVariants.{Looked, Noted}
 use Rattle.machine.specs.declared.types.Call.{Call}
 use Rattle.machine.specs.declared.types.Call.TheVariants.{New, Load, Copy, Drop, Read, Look, Note, Store, Open, Knock, Attend, Hear, Trace, Sweep, Settle}
-use Rattle.machine.specs.declared.types.Answer.{Answer}
-use Rattle.machine.specs.declared.types.Answer.TheVariants.{Refused}
+use Rattle.machine.specs.Acts.{Answer}
 use Rattle.machine.specs.World.{World, Name, used, serial_at, serial_of, link, place, card, see, named}
 use Rattle.refusal.specs.Refusals.{number}
 use Rattle.machine.specs.Cards.{Outcome, refuse, busy, new_from, new_call, load_from, load_call, copy_call, drop_call, read_call, look_from, look_call, note_from, note_stage, note_call, store_from, store_stage, store_call}
@@ -35,7 +33,7 @@ abbrev has : ℕ → Cell → Bool
 has s c = see (λ r. eqb r.serial s) false c
 
 -- the one cell that holds a serial is found
-finds : (h : List Cell) (s x : ℕ) → has s (get_or h x Free) ≡ true → ((y : ℕ) → has s (get_or h y Free) ≡ true → y ≡ x) → cell_of h s ≡ x
+finds : (h : List Cell) (s x : ℕ) → has s (get_or h x None) ≡ true → ((y : ℕ) → has s (get_or h y None) ≡ true → y ≡ x) → cell_of h s ≡ x
 unfolding cell_of
 finds [] s x a f = absurd (false≢true a)
 finds (c ∷ h) s zero a f = rw a
@@ -75,7 +73,7 @@ named_or w None = refl
 named_or w (Some x) = grind arith
 
 module _ {C : Type 0} (w : World C) (m : Meaning) (I : Inv w m) (e : Endless C) (R : Alike w e) where
-  gate : (b d : Bool) → d ≡ b → (r : Refusal) → is_nine {C = C} (Refused r) ≡ false → (o : Outcome C) (q : Reply C) → (b ≡ false → Goes e (answer o.0) o.1 q) → Goes e (answer (cond b (refuse r w) o).0) (cond b (refuse r w) o).1 (cond d (refuses (number r), e) q)
+  gate : (b d : Bool) → d ≡ b → (r : Refusal) → is_nine {C = C} (Err r) ≡ false → (o : Outcome C) (q : Reply C) → (b ≡ false → Goes e (answer o.0) o.1 q) → Goes e (answer (cond b (refuse r w) o).0) (cond b (refuse r w) o).1 (cond d (refuses (number r), e) q)
   gate true true k r n o q f = inl (n, refl, R)
   gate false false k r n o q f = f refl
   gate true false k r n o q f = absurd (false≢true k)

@@ -2,8 +2,7 @@
 use Rattle.std.proofs.Common.{◌≡◌, ℕ, ◌+◌, ◌<◌, ◌≤◌, Bool, true, false, cond, ◌||◌, eqb, ltb, leb, List, [], ◌∷◌, length, set, Some, None, Ok, Err, Option, Result, sym, refl, subst, arith}
 use Rattle.std.proofs.lemmas.Bool.Decides.{nat_tests}
 use Rattle.std.proofs.lemmas.Bool.{false≢true}
-use Rattle.machine.specs.declared.types.Cell.{Cell}
-use Rattle.machine.specs.declared.types.Cell.TheVariants.{Free, Used}
+use Rattle.machine.specs.World.{Cell}
 use Rattle.machine.specs.declared.types.Phase.{Phase}
 use Rattle.machine.specs.declared.types.Phase.TheVariants as ph
 use Rattle.refusal.specs.declared.kinds.Refusal.{Refusal}
@@ -13,7 +12,7 @@ use Rattle.machine.specs.declared.types.Stage.TheVariants.{Looked, Noted}
 use Rattle.machine.specs.declared.types.Update.{Update}
 use Rattle.machine.specs.declared.types.Call.{Call}
 use Rattle.machine.specs.declared.types.Call.TheVariants.{New, Load, Copy, Drop, Read, Look, Note, Store, Open, Knock, Attend, Hear, Trace, Sweep, Settle}
-use Rattle.machine.specs.declared.types.Answer.{Answer}
+use Rattle.machine.specs.Acts.{Answer}
 use Rattle.machine.specs.World.{World, Name, at, used, mark, wait, named, card, place, with_answered}
 use Rattle.machine.specs.Cards.{Outcome, refuse, busy, new_done, new_from, new_call, load_done, load_from, load_call, copy_done, copy_call, drop_done, drop_call, look_done, look_from, look_call, note_done, note_stage, note_from, note_call, store_done, store_stage, store_from, store_call}
 use Rattle.machine.specs.Rounds.{phase_number, ordering, enter, all_of, open_done, open_call, obey, attend_done, attend_call, reply_to, number_or_0, leave_gather, start_sweep, move_from, hear_done, hear_call, trace_done, trace_from, trace_call, sweep_keep, sweep_free, sweep_cell, sweep_call, settle_done, settle_call}
@@ -159,8 +158,8 @@ module _ {C : Type 0} (w : World C) where
   sweep_changes = allow (eqb (phase_number w.phase) 6) _ _ (λ a. from (at w w.sweep) refl (at_sweep w.phase a))
     where
       from : (c : Cell) → at w w.sweep ≡ c → w.phase ≡ ph.Sweep → Change w (sweep_cell w c).1
-      from Free e h = keeps h (grind arith)
-      from (Used r) e h = by (mark w w.sweep || wait w w.sweep) refl
+      from None e h = keeps h (grind arith)
+      from (Some r) e h = by (mark w w.sweep || wait w w.sweep) refl
         where
           by : (b : Bool) → (mark w w.sweep || wait w w.sweep) ≡ b → Change w (cond {A = Outcome C} b (Ok 0, sweep_keep w) (Ok r.serial, sweep_free w)).1
           by true k = keeps h (λ _. k)

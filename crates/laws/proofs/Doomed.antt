@@ -8,7 +8,7 @@ use Rattle.machine.specs.declared.types.Stage.TheVariants.{Looked}
 use Rattle.machine.specs.declared.types.Update.{Update}
 use Rattle.machine.specs.declared.types.Call.{Call}
 use Rattle.machine.specs.declared.types.Call.TheVariants.{Open, Settle}
-use Rattle.machine.specs.declared.types.Answer.{Answer}
+use Rattle.machine.specs.Acts.{Answer}
 use Rattle.machine.specs.World.{World, Name, at, used, serial_at, mark, wait, snooped, link, view, place, card, view_at, named, blank_card}
 use Rattle.machine.specs.Waiting.{heap, snooped_names}
 use Rattle.machine.specs.Cards.{load_done, copy_done, look_done, note_done, store_done}

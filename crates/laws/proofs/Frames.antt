@@ -4,8 +4,7 @@ use Rattle.std.proofs.lemmas.List.{get_or-set_same, get_or-set_other, set_past, 
 use Rattle.std.proofs.lemmas.Bool.{cases_eq, cases_lt}
 use Rattle.std.specs.List.{slice_get}
 use Rattle.machine.specs.declared.types.Record.{Record}
-use Rattle.machine.specs.declared.types.Cell.{Cell}
-use Rattle.machine.specs.declared.types.Cell.TheVariants.{Free, Used}
+use Rattle.machine.specs.World.{Cell}
 use Rattle.machine.specs.declared.types.Card.{Card}
 use Rattle.machine.specs.World.{World, Name, see, named, alter, alter_at, free_at, born_at, alter_all, alter_card, read_all, blank_card, view_of}
 use Rattle.machine.specs.Waiting.{snooped_names, name_if}
@@ -37,7 +36,7 @@ nth_set_tells (a ∷ l) (suc i) v (suc j) =
 
 -- ---- cells
 
-pub alter_at_tells : (h : List Cell) (x : ℕ) (f : Record → Record) (y : ℕ) → ((get_or (alter_at h x f) y Free ≡ alter f (get_or h y Free)) × (y ≡ x)) ⊎ ((get_or (alter_at h x f) y Free ≡ get_or h y Free) × (y ≡ x → ⊥))
+pub alter_at_tells : (h : List Cell) (x : ℕ) (f : Record → Record) (y : ℕ) → ((get_or (alter_at h x f) y None ≡ alter f (get_or h y None)) × (y ≡ x)) ⊎ ((get_or (alter_at h x f) y None ≡ get_or h y None) × (y ≡ x → ⊥))
 unfolding alter_at
 alter_at_tells h x f y =
     elim (cases_eq y x) [
@@ -45,14 +44,14 @@ alter_at_tells h x f y =
         | inl l ↦ inl (rw (e, get_or-set_same), e)
         | inr g ↦ inl (rw (e, set_past, get_or_past), e)
       ]
-      | inr n ↦ inr (get_or-set_other h x y (alter f (get_or h x Free)) Free n, n)
+      | inr n ↦ inr (get_or-set_other h x y (alter f (get_or h x None)) None n, n)
     ]
 
 pub alter_at-length : (h : List Cell) (x : ℕ) (f : Record → Record) → length (alter_at h x f) ≡ length h
 unfolding alter_at
-alter_at-length h x f = length-set h x (alter f (get_or h x Free))
+alter_at-length h x f = length-set h x (alter f (get_or h x None))
 
-pub free_at_tells : (h : List Cell) (x y : ℕ) → ((get_or (free_at h x) y Free ≡ Free) × (y ≡ x)) ⊎ ((get_or (free_at h x) y Free ≡ get_or h y Free) × (y ≡ x → ⊥))
+pub free_at_tells : (h : List Cell) (x y : ℕ) → ((get_or (free_at h x) y None ≡ None) × (y ≡ x)) ⊎ ((get_or (free_at h x) y None ≡ get_or h y None) × (y ≡ x → ⊥))
 unfolding free_at
 free_at_tells h x y =
     elim (cases_eq y x) [
@@ -60,22 +59,22 @@ free_at_tells h x y =
         | inl l ↦ inl (rw (e, get_or-set_same), e)
         | inr g ↦ inl (rw (e, set_past, get_or_past), e)
       ]
-      | inr n ↦ inr (get_or-set_other h x y Free Free n, n)
+      | inr n ↦ inr (get_or-set_other h x y None None n, n)
     ]
 
 pub free_at-length : (h : List Cell) (x : ℕ) → length (free_at h x) ≡ length h
 unfolding free_at
-free_at-length h x = length-set h x Free
+free_at-length h x = length-set h x None
 
-pub born_at_tells : (h : List Cell) (x : ℕ) (r : Record) (y : ℕ) → ((get_or (born_at h x r) y Free ≡ Used r) × (y ≡ x) × (y < length h)) ⊎ ((get_or (born_at h x r) y Free ≡ get_or h y Free) × (y ≡ x → length h ≤ y))
+pub born_at_tells : (h : List Cell) (x : ℕ) (r : Record) (y : ℕ) → ((get_or (born_at h x r) y None ≡ Some r) × (y ≡ x) × (y < length h)) ⊎ ((get_or (born_at h x r) y None ≡ get_or h y None) × (y ≡ x → length h ≤ y))
 unfolding born_at
-born_at_tells h x r y = set_tells h x (Used r) y Free
+born_at_tells h x r y = set_tells h x (Some r) y None
 
 pub born_at-length : (h : List Cell) (x : ℕ) (r : Record) → length (born_at h x r) ≡ length h
 unfolding born_at
-born_at-length h x r = length-set h x (Used r)
+born_at-length h x r = length-set h x (Some r)
 
-pub alter_all-at : (h : List Cell) (f : Record → Record) (y : ℕ) → get_or (alter_all h f) y Free ≡ alter f (get_or h y Free)
+pub alter_all-at : (h : List Cell) (f : Record → Record) (y : ℕ) → get_or (alter_all h f) y None ≡ alter f (get_or h y None)
 unfolding alter_all
 alter_all-at [] f y = refl
 alter_all-at (c ∷ h) f zero = refl
@@ -116,19 +115,19 @@ unfolding read_all
 read_all-length w [] = refl
 read_all-length w (v ∷ vs) = ap suc (read_all-length w vs)
 
-pub snooped_names-at : (n : ℕ) (h : List Cell) (i : ℕ) → get_or (snooped_names n h) i None ≡ name_if (see (λ r. r.snooped) false (get_or h i Free)) (n + i)
+pub snooped_names-at : (n : ℕ) (h : List Cell) (i : ℕ) → get_or (snooped_names n h) i None ≡ name_if (see (λ r. r.snooped) false (get_or h i None)) (n + i)
 unfolding snooped_names
 snooped_names-at n [] i = refl
 snooped_names-at n (c ∷ h) zero = rw add-zero
-snooped_names-at n (c ∷ h) (suc i) = let e : suc n + i ≡ n + suc i = omega arith in snooped_names-at (suc n) h i ∙ ap (name_if (see (λ r. r.snooped) false (get_or h i Free))) e
+snooped_names-at n (c ∷ h) (suc i) = let e : suc n + i ≡ n + suc i = omega arith in snooped_names-at (suc n) h i ∙ ap (name_if (see (λ r. r.snooped) false (get_or h i None))) e
 
 pub view_at_lem : (i : ℕ) (c : Cell) → get_or (see view_of [] c) i None ≡ see (λ r. get_or (view_of r) i None) None c
-view_at_lem i Free = refl
-view_at_lem i (Used r) = refl
+view_at_lem i None = refl
+view_at_lem i (Some r) = refl
 
 pub links_at_lem : (i : ℕ) (c : Cell) → get_or (see (λ r. r.links) [] c) i None ≡ see (λ r. get_or r.links i None) None c
-links_at_lem i Free = refl
-links_at_lem i (Used r) = refl
+links_at_lem i None = refl
+links_at_lem i (Some r) = refl
 
 -- ---- answers
 

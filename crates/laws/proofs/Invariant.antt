@@ -1,6 +1,6 @@
 -- The invariant holds at a start and is kept by every step.
 use Rattle.machine.specs.declared.types.Call.{Call}
-use Rattle.machine.specs.declared.types.Answer.{Answer}
+use Rattle.machine.specs.Acts.{Answer}
 use Rattle.machine.specs.World.{World}
 use Rattle.line.specs.Lines.{Meaning}
 use Rattle.laws.specs.Steps.{Step, Start}

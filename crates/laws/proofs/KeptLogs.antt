@@ -7,7 +7,7 @@ use Rattle.machine.specs.declared.types.Phase.TheVariants as ph
 use Rattle.machine.specs.declared.types.Stage.TheVariants.{Looked, Noted}
 use Rattle.machine.specs.declared.types.Update.{Update}
 use Rattle.machine.specs.declared.types.Call.{Call}
-use Rattle.machine.specs.declared.types.Answer.{Answer}
+use Rattle.machine.specs.Acts.{Answer}
 use Rattle.machine.specs.World.{World, Name, used, mark, link, links_at, view, log_at, logged, place, card, named, read_all}
 use Rattle.machine.specs.Cards.{new_done, draft, look_done, note_done}
 use Rattle.machine.specs.Rounds.{enter, trace_done, leave_gather, obey, sweep_free}

@@ -3,7 +3,6 @@ use Rattle.std.proofs.Common.{◌≡◌, ℕ, zero, suc, ◌+◌, ◌<◌, ◌�
 use Rattle.std.proofs.lemmas.Bool.Decides.{nat_tests}
 use Rattle.std.proofs.lemmas.Bool.{cases_eq, cases_lt, false≢true}
 use Rattle.std.proofs.lemmas.List.{get_or_past}
-use Rattle.machine.specs.declared.types.Cell.TheVariants.{Free}
 use Rattle.machine.specs.declared.types.Phase.TheVariants as ph
 use Rattle.machine.specs.declared.types.Stage.TheVariants.{Looked}
 use Rattle.machine.specs.declared.types.Update.{Update}
@@ -61,7 +60,7 @@ module _ {C : Type 0} (w : World C) (m : Meaning) (I : Inv w m) where
   linked_used y i x e = grind arith
 
   pub used_inside : (y : ℕ) → used w y ≡ true → y < length w.cells
-  used_inside y e = grind (nat_tests, arith, get_or_past w.cells y Free, cases_lt y (length w.cells))
+  used_inside y e = grind (nat_tests, arith, get_or_past w.cells y None, cases_lt y (length w.cells))
 
   -- ---- places
 

@@ -3,7 +3,6 @@ use Rattle.std.proofs.Common.{◌≡◌, ℕ, ◌+◌, ◌%◌, ◌<◌, ◌≤�
 use Rattle.std.proofs.lemmas.Bool.Decides.{nat_tests}
 use Rattle.std.proofs.lemmas.Bool.{cases_lt}
 use Rattle.std.proofs.lemmas.List.{get_or_past}
-use Rattle.machine.specs.declared.types.Cell.TheVariants.{Free}
 use Rattle.machine.specs.declared.types.Phase.TheVariants as ph
 use Rattle.machine.specs.declared.types.Stage.TheVariants.{Looked}
 use Rattle.machine.specs.declared.types.Update.{Update}
@@ -27,7 +26,7 @@ module _ {C : Type 0} {w : World C} {m : Meaning} (I : Inv w m) where
 
   -- a record is inside the table
   pub within : (x : ℕ) → used w x ≡ true → x < length w.cells
-  within x u = grind (nat_tests, arith, get_or_past w.cells x Free, cases_lt x (length w.cells))
+  within x u = grind (nat_tests, arith, get_or_past w.cells x None, cases_lt x (length w.cells))
 
   -- only a card with logging on has a draft, and in Rest and Alert none has it on
   undrafted : (w.phase ≡ ph.Rest) ⊎ (w.phase ≡ ph.Alert) → (c : ℕ) (u : Update) (d : Option (List Name)) → c < length w.cards → (card w c).update ≡ Some u → u.stage ≡ Looked d → d ≡ None

@@ -4,8 +4,7 @@ use Rattle.std.proofs.lemmas.Bool.Decides.{nat_tests}
 use Rattle.std.proofs.lemmas.Bool.{false≢true}
 use Rattle.refusal.specs.declared.kinds.Refusal.{Refusal}
 use Rattle.refusal.specs.declared.kinds.Refusal.TheVariants.{NoCard, WrongPhase}
-use Rattle.machine.specs.declared.types.Cell.{Cell}
-use Rattle.machine.specs.declared.types.Cell.TheVariants.{Free, Used}
+use Rattle.machine.specs.World.{Cell}
 use Rattle.machine.specs.declared.types.Stage.{Stage}
 use Rattle.machine.specs.declared.types.Stage.TheVariants.{Looked, Noted}
 use Rattle.machine.specs.declared.types.Update.{Update}
@@ -69,8 +68,8 @@ module _ {C : Type 0} (w : World C) where
   trace_stays (k ∷ ks) h = absurd (false≢true (sym h))
 
   sweep_stays : (c : Cell) → Stays (sweep_cell w c)
-  sweep_stays Free h = absurd (false≢true (sym h))
-  sweep_stays (Used r) h = by (mark w w.sweep || wait w w.sweep) h
+  sweep_stays None h = absurd (false≢true (sym h))
+  sweep_stays (Some r) h = by (mark w w.sweep || wait w w.sweep) h
     where
       by : (b : Bool) → Stays (cond b (Ok 0, sweep_keep w) (Ok r.serial, sweep_free w))
       by true h = absurd (false≢true (sym h))

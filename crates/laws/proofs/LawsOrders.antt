@@ -5,8 +5,7 @@ use Rattle.std.proofs.lemmas.Bool.Decides.{nat_tests}
 use Rattle.std.proofs.lemmas.Bool.{false≢true}
 use Rattle.refusal.specs.declared.kinds.Refusal.{Refusal}
 use Rattle.refusal.specs.declared.kinds.Refusal.TheVariants.{WrongPhase}
-use Rattle.machine.specs.declared.types.Cell.{Cell}
-use Rattle.machine.specs.declared.types.Cell.TheVariants.{Free, Used}
+use Rattle.machine.specs.World.{Cell}
 use Rattle.machine.specs.declared.types.Phase.{Phase}
 use Rattle.machine.specs.declared.types.Phase.TheVariants as ph
 use Rattle.machine.specs.declared.types.Stage.{Stage}
@@ -14,7 +13,7 @@ use Rattle.machine.specs.declared.types.Stage.TheVariants.{Looked, Noted}
 use Rattle.machine.specs.declared.types.Update.{Update}
 use Rattle.machine.specs.declared.types.Call.{Call}
 use Rattle.machine.specs.declared.types.Call.TheVariants.{New, Load, Copy, Drop, Read, Look, Note, Store, Open, Knock, Attend, Hear, Trace, Sweep, Settle}
-use Rattle.machine.specs.declared.types.Answer.{Answer}
+use Rattle.machine.specs.Acts.{Answer}
 use Rattle.machine.specs.World.{World, Name, at, mark, wait, named, card, place, count_up}
 use Rattle.machine.specs.Cards.{Outcome, refuse, busy, new_from, new_call, load_from, load_call, copy_call, drop_call, look_from, look_call, note_from, note_stage, note_call, store_from, store_stage, store_call}
 use Rattle.machine.specs.Rounds.{phase_number, ordering, open_done, open_call, obey, attend_done, move_from, hear_done, hear_call, trace_from, trace_call, sweep_keep, sweep_free, sweep_cell, sweep_call, settle_done, settle_call}
@@ -108,8 +107,8 @@ module _ {C : Type 0} (w : World C) (d : ℕ) where
   trace_same (k ∷ ks) = (refl, refl)
 
   sweep_same : (c : Cell) → Same (sweep_cell w c).1
-  sweep_same Free = (refl, refl)
-  sweep_same (Used r) = by (mark w w.sweep || wait w w.sweep)
+  sweep_same None = (refl, refl)
+  sweep_same (Some r) = by (mark w w.sweep || wait w w.sweep)
     where
       by : (b : Bool) → Same (cond {A = Outcome C} b (Ok 0, sweep_keep w) (Ok r.serial, sweep_free w)).1
       by true = (refl, refl)

@@ -1,14 +1,13 @@
 -- A store just made is at rest.
-use Rattle.std.proofs.Common.{◌≡◌, ℕ, zero, suc, ◌+◌, ◌-◌, ◌<◌, ◌≤◌, false, ◌⊎◌, List, length, get_or, replicate, sym, refl, ◌∙◌, inl, inr, arith, length-set}
+use Rattle.std.proofs.Common.{◌≡◌, ℕ, zero, suc, ◌+◌, ◌-◌, ◌<◌, ◌≤◌, false, ◌⊎◌, List, length, get_or, replicate, sym, refl, ◌∙◌, inl, inr, arith, length-set, None}
 use lib.ListN.{length-replicate}
-use Rattle.machine.specs.declared.types.Cell.TheVariants.{Free}
 use Rattle.machine.specs.declared.types.Colour.TheVariants.{Zero}
-use Rattle.machine.specs.World.{fresh, born_at, newborn, empty_links, fresh_card, blank_card, count_up}
+use Rattle.machine.specs.World.{Cell, fresh, born_at, newborn, empty_links, fresh_card, blank_card, count_up}
 use Rattle.line.specs.Lines.{Among}
 use Rattle.laws.specs.Steps.{AtRest, Distinct}
 use Rattle.laws.proofs.Frames.{frame, born_at-length}
 
-free_at_lem : (n y : ℕ) → get_or (replicate n Free) y Free ≡ Free
+free_at_lem : (n y : ℕ) → get_or {A = Cell} (replicate n None) y None ≡ None
 free_at_lem zero y = refl
 free_at_lem (suc n) zero = refl
 free_at_lem (suc n) (suc y) = free_at_lem n y
@@ -40,8 +39,8 @@ count_once a (suc n) = (λ k. omega (arith, (count_is (suc a) n a k).0), count_o
 
 pub made : {C : Type 0} (n : ℕ) (cs : List C) (k first rounds : ℕ) (x : C) → 1 ≤ n → length cs ≡ n → 1 ≤ first → AtRest (fresh n cs k first rounds x)
 made n cs k first rounds x h e f =
-    let cells : length (born_at (replicate n Free) 0 (newborn first empty_links Zero)) ≡ n = born_at-length (replicate n Free) 0 (newborn first empty_links Zero) ∙ length-replicate n Free in
-    let size : length (replicate n Free) ≡ n = length-replicate n Free in
+    let cells : length (born_at (replicate n None) 0 (newborn first empty_links Zero)) ≡ n = born_at-length (replicate n None) 0 (newborn first empty_links Zero) ∙ length-replicate n None in
+    let size : length {A = Cell} (replicate n None) ≡ n = length-replicate n None in
     let K : (c : ℕ) → _ = like k (fresh_card rounds) blank_card in
     let kards : length (replicate k (fresh_card rounds)) ≡ k = length-replicate k (fresh_card rounds) in
     record {

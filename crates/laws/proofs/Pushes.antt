@@ -1,8 +1,7 @@
 -- What pushes onto the waiting list do: each cell is as before, or was pale, is named and is grey now.
 use Rattle.std.proofs.Common.{◌≡◌, ℕ, zero, suc, true, false, ◌⊎◌, List, [], ◌∷◌, length, get_or, Some, None, sym, refl, ap, ◌∙◌, inl, inr, arith}
 use Rattle.machine.specs.declared.types.Colour.{Colour}
-use Rattle.machine.specs.declared.types.Cell.{Cell}
-use Rattle.machine.specs.declared.types.Cell.TheVariants.{Free}
+use Rattle.machine.specs.World.{Cell}
 use Rattle.machine.specs.World.{Name, see, same_colour, alter, greyen}
 use Rattle.machine.specs.Waiting.{Heap, pale, push, push_all}
 use Rattle.line.specs.Lines.{Among}
@@ -10,7 +9,7 @@ use Rattle.laws.specs.Steps.{Distinct}
 use Rattle.laws.proofs.Frames.{frame, sizes}
 
 abbrev pub cell_of : Heap → ℕ → Cell
-cell_of h x = get_or h.cells x Free
+cell_of h x = get_or h.cells x None
 
 -- one cell's way through pushes of vs
 abbrev pub Told : Colour → Heap → Heap → List Name → ℕ → Type 0

@@ -2,8 +2,7 @@
 use Rattle.std.proofs.Common.{◌≡◌, ℕ, ◌+◌, Bool, true, false, cond, ◌||◌, eqb, leb, ◌⊎◌, List, [], ◌∷◌, length, set, Some, None, Option, Result, sym, refl, ap, ◌∙◌, inl, inr, arith}
 use Rattle.std.specs.List.{slice_get}
 use Rattle.refusal.specs.declared.kinds.Refusal.{Refusal}
-use Rattle.machine.specs.declared.types.Cell.{Cell}
-use Rattle.machine.specs.declared.types.Cell.TheVariants.{Free, Used}
+use Rattle.machine.specs.World.{Cell}
 use Rattle.machine.specs.declared.types.Phase.{Phase}
 use Rattle.machine.specs.declared.types.Phase.TheVariants as ph
 use Rattle.machine.specs.declared.types.Update.{Update}
@@ -198,8 +197,8 @@ module _ {C : Type 0} (w : World C) (m : Meaning) (I : Inv w m) where
     way false o q A B = B refl
 
     sweep_from : (c : Cell) → w.phase ≡ ph.Sweep → Alike (sweep_cell w c).1 e
-    sweep_from Free h = quiet_alike w (sweep_keep w) (calm w (sweep_keep w) refl refl refl refl) e R
-    sweep_from (Used r) h = way (mark w w.sweep || wait w w.sweep) _ _ (λ a. quiet_alike w (sweep_keep w) (calm w (sweep_keep w) refl refl refl refl) e R) (λ a. free_alike h (grind arith) e R)
+    sweep_from None h = quiet_alike w (sweep_keep w) (calm w (sweep_keep w) refl refl refl refl) e R
+    sweep_from (Some r) h = way (mark w w.sweep || wait w w.sweep) _ _ (λ a. quiet_alike w (sweep_keep w) (calm w (sweep_keep w) refl refl refl refl) e R) (λ a. free_alike h (grind arith) e R)
 
     pub sweep_alike : Alike (sweep_call w).1 e
     sweep_alike = way (eqb (phase_number w.phase) 6) _ _ (λ a. sweep_from (at w w.sweep) (grind arith)) (λ a. R)

@@ -1,7 +1,7 @@
 -- The invariant holds along a whole run, given that it holds at a start and is kept by a step; and so (a).
 use Rattle.std.proofs.Common.{ℕ, List}
 use Rattle.machine.specs.declared.types.Call.{Call}
-use Rattle.machine.specs.declared.types.Answer.{Answer}
+use Rattle.machine.specs.Acts.{Answer}
 use Rattle.machine.specs.World.{World}
 use Rattle.line.specs.Lines.{Meaning}
 use Rattle.laws.specs.Leads.{Led, Holds}

@@ -1,7 +1,7 @@
 -- The endless store: links and places hold serials, nothing is ever freed, and there are no colours, marks, switches or drafts.
 use Rattle.std.specs.Prelude.{ℕ, suc, ◌+◌, Bool, true, false, cond, List, [], ◌∷◌, length, is_some, Some, None, Option, ◌==◌, nat_le, nat_lt}
 use Rattle.std.specs.List.{slice_get}
-use Rattle.machine.specs.declared.types.Cell.{Cell}
+use Rattle.machine.specs.World.{Cell}
 use Rattle.machine.specs.declared.types.Stage.{Stage}
 use Rattle.machine.specs.declared.types.Stage.TheVariants.{Looked, Noted}
 use Rattle.machine.specs.declared.types.Update.{Update}

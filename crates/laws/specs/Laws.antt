@@ -7,7 +7,7 @@ use Rattle.machine.specs.declared.types.Stage.TheVariants.{Looked}
 use Rattle.machine.specs.declared.types.Update.{Update}
 use Rattle.machine.specs.declared.types.Call.{Call}
 use Rattle.machine.specs.declared.types.Call.TheVariants.{New, Load, Copy, Drop, Read, Look, Note, Store, Open, Knock, Attend, Hear, Trace, Sweep, Settle}
-use Rattle.machine.specs.declared.types.Answer.{Answer}
+use Rattle.machine.specs.Acts.{Answer}
 use Rattle.machine.specs.World.{World, Name, used, mark, wait, link, log_at, card, place, fresh}
 use Rattle.machine.specs.Rounds.{sweep_call}
 use Rattle.machine.specs.Acts.{act, accepted}

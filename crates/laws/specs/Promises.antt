@@ -3,7 +3,7 @@
 use Rattle.std.specs.Prelude.{◌≡◌, ℕ, ◌≤◌, true, List, length}
 use Rattle.machine.specs.declared.types.Call.{Call}
 use Rattle.machine.specs.declared.types.Call.TheVariants.{Open, Settle}
-use Rattle.machine.specs.declared.types.Answer.{Answer}
+use Rattle.machine.specs.Acts.{Answer}
 use Rattle.machine.specs.World.{World, fresh}
 use Rattle.line.specs.Lines.{Meaning}
 use Rattle.machine.specs.Acts.{accepted}

@@ -1,7 +1,7 @@
 -- The three promises of one whole run, said step by step along the run.
 use Rattle.std.specs.Prelude.{◌≡◌, ℕ, ◌&&◌, List, MatchBool}
 use Rattle.machine.specs.declared.types.Call.{Call}
-use Rattle.machine.specs.declared.types.Answer.{Answer}
+use Rattle.machine.specs.Acts.{Answer}
 use Rattle.machine.specs.World.{World}
 use Rattle.machine.specs.Acts.{accepted}
 use Rattle.line.specs.Lines.{Meaning}

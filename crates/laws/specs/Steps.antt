@@ -5,7 +5,7 @@ use Rattle.machine.specs.declared.types.Phase.TheVariants.{Rest}
 use Rattle.refusal.specs.declared.kinds.Refusal.{Refusal}
 use Rattle.machine.specs.declared.types.Call.{Call}
 use Rattle.machine.specs.declared.types.Call.TheVariants.{New, Load, Copy, Drop, Read, Look, Note, Store, Open, Knock, Attend, Hear, Trace, Sweep, Settle}
-use Rattle.machine.specs.declared.types.Answer.{Answer}
+use Rattle.machine.specs.Acts.{Answer}
 use Rattle.machine.specs.World.{World, used, serial_at, links_at, link, colour_at, wait, snooped, log_at, card, place}
 use Rattle.machine.specs.Rounds.{knock_call, attend_call, hear_call}
 use Rattle.line.specs.Lines.{Meaning, Among, Sent, Fetched, Replied, Collected}

@@ -1,18 +1,17 @@
 -- Words of the promises: which calls are card calls, which answers count, and what is compared.
-use Rattle.std.specs.Prelude.{◌≡◌, Bool, true, false, cond, not, ◌&&◌, List, [], ◌∷◌, ◌==◌}
+use Rattle.std.specs.Prelude.{◌≡◌, Bool, true, false, cond, not, ◌&&◌, List, [], ◌∷◌, Ok, Err, ◌==◌}
 use Rattle.machine.specs.declared.types.Call.{Call}
 use Rattle.machine.specs.declared.types.Call.TheVariants.{New, Load, Copy, Drop, Read, Look, Note, Store, Open, Knock, Attend, Hear, Trace, Sweep, Settle}
-use Rattle.machine.specs.declared.types.Answer.{Answer}
-use Rattle.machine.specs.declared.types.Answer.TheVariants.{Number, Contents, Refused}
+use Rattle.machine.specs.declared.types.Given.TheVariants.{Number, Contents}
 use Rattle.refusal.specs.Refusals.{number}
-use Rattle.machine.specs.Acts.{accepted}
+use Rattle.machine.specs.Acts.{Answer, accepted}
 use Rattle.laws.specs.Endless.{Said, refuses, answers, gives}
 
 -- an answer by its number and values
 abbrev pub says : {C : Type 0} → Answer C → Said C
-says (Number n) = answers n
-says (Contents n x) = gives n x
-says (Refused r) = refuses (number r)
+says (Ok (Number n)) = answers n
+says (Ok (Contents n x)) = gives n x
+says (Err r) = refuses (number r)
 
 -- one of the eight card calls
 abbrev pub is_card : {C : Type 0} → Call C → Bool
@@ -76,9 +75,8 @@ Unclosed (k ∷ ks) (a ∷ rs) = ((is_settle k && accepted a) ≡ false) × Uncl
 
 -- refused for want of a cell, which only new is
 abbrev pub is_nine : {C : Type 0} → Answer C → Bool
-is_nine (Number n) = false
-is_nine (Contents n x) = false
-is_nine (Refused r) = number r == 9
+is_nine (Ok g) = false
+is_nine (Err r) = number r == 9
 
 -- a card call that the endless store is given too
 abbrev pub counts : {C : Type 0} → Call C → Answer C → Bool

@@ -3,20 +3,23 @@ use Rattle.std.specs.Prelude.{ℕ, Bool, true, false, Ok, Err, Option, Result}
 use Rattle.refusal.specs.declared.kinds.Refusal.{Refusal}
 use Rattle.machine.specs.declared.types.Call.{Call}
 use Rattle.machine.specs.declared.types.Call.TheVariants.{New, Load, Copy, Drop, Read, Look, Note, Store, Open, Knock, Attend, Hear, Trace, Sweep, Settle}
-use Rattle.machine.specs.declared.types.Answer.{Answer}
-use Rattle.machine.specs.declared.types.Answer.TheVariants.{Number, Contents, Refused}
+use Rattle.machine.specs.declared.types.Given.{Given}
+use Rattle.machine.specs.declared.types.Given.TheVariants.{Number, Contents}
 use Rattle.machine.specs.World.{World}
 use Rattle.machine.specs.Cards.{Outcome, new_call, load_call, copy_call, drop_call, read_call, look_call, note_call, store_call}
 use Rattle.machine.specs.Rounds.{open_call, knock_call, attend_call, hear_call, trace_call, sweep_call, settle_call}
 
--- a call's answer as one of three kinds: a number, contents, or a refusal
+-- what any call answers: a number or contents, or a refusal
+abbrev pub Answer : Type 0 → Type 0
+Answer C = Result (Given C) Refusal
+
 abbrev pub answer : {C : Type 0} → Result ℕ Refusal → Answer C
-answer (Ok n) = Number n
-answer (Err r) = Refused r
+answer (Ok n) = Ok (Number n)
+answer (Err r) = Err r
 
 abbrev pub answer_read : {C : Type 0} → Result (ℕ × C) Refusal → Answer C
-answer_read (Ok p) = Contents p.0 p.1
-answer_read (Err r) = Refused r
+answer_read (Ok p) = Ok (Contents p.0 p.1)
+answer_read (Err r) = Err r
 
 abbrev pub told : {C : Type 0} → Outcome C → (Answer C) × (World C)
 told o = (answer o.0, o.1)
@@ -41,6 +44,5 @@ act w Settle got = told (settle_call w)
 
 -- the call was not refused
 abbrev pub accepted : {C : Type 0} → Answer C → Bool
-accepted (Number n) = true
-accepted (Contents n x) = true
-accepted (Refused r) = false
+accepted (Ok g) = true
+accepted (Err r) = false

@@ -2,7 +2,7 @@
 -- what an accepted call does is a definition of its own, whose name ends in _done.
 use Rattle.std.specs.Prelude.{ℕ, ◌+◌, Bool, true, false, cond, not, ◌&&◌, List, [], ◌∷◌, length, is_some, Some, None, Ok, Err, Option, Result, ◌==◌, nat_le, nat_lt, slice_set}
 use Rattle.std.specs.List.{slice_get}
-use Rattle.machine.specs.declared.types.Cell.{Cell}
+use Rattle.machine.specs.World.{Cell}
 use Rattle.refusal.specs.declared.kinds.Refusal.{Refusal}
 use Rattle.refusal.specs.declared.kinds.Refusal.TheVariants.{NoCard, NoPlace, NoLink, UpdateInHand, NoUpdate, Blank, Exhausted, NoCell}
 use Rattle.machine.specs.declared.types.Stage.{Stage}

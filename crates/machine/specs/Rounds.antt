@@ -6,8 +6,7 @@ use Rattle.machine.specs.declared.types.Phase.TheVariants.{Rest, Alert, Log, Gat
 use Rattle.refusal.specs.declared.kinds.Refusal.{Refusal}
 use Rattle.refusal.specs.declared.kinds.Refusal.TheVariants.{NoCard, UpdateInHand, WrongPhase, Exhausted}
 use Rattle.machine.specs.declared.types.Card.{Card}
-use Rattle.machine.specs.declared.types.Cell.{Cell}
-use Rattle.machine.specs.declared.types.Cell.TheVariants.{Free, Used}
+use Rattle.machine.specs.World.{Cell}
 use Rattle.machine.specs.World.{World, Name, at, mark, wait, serial_at, view_at, card, other, free_at, alter_all, blacken, unsnoop, unlog, with_cells, with_heap, with_phase, with_answered, change_card, alter_at}
 use Rattle.machine.specs.Waiting.{heap, push_all, with_marks, put_all, snooped_names}
 use Rattle.machine.specs.Cards.{Outcome, refuse, busy}
@@ -228,8 +227,8 @@ abbrev pub sweep_free : {C : Type 0} → World C → World C
 sweep_free w = sweep_to w (free_at w.cells w.sweep) (w.sweep ∷ w.free)
 
 abbrev pub sweep_cell : {C : Type 0} → World C → Cell → Outcome C
-sweep_cell w Free = (Ok 0, sweep_keep w)
-sweep_cell w (Used r) = cond (mark w w.sweep || wait w w.sweep) (Ok 0, sweep_keep w) (Ok r.serial, sweep_free w)
+sweep_cell w None = (Ok 0, sweep_keep w)
+sweep_cell w (Some r) = cond (mark w w.sweep || wait w w.sweep) (Ok 0, sweep_keep w) (Ok r.serial, sweep_free w)
 
 abbrev pub sweep_call : {C : Type 0} → World C → Outcome C
 sweep_call w = cond (phase_number w.phase == 6) (sweep_cell w (at w w.sweep)) (refuse WrongPhase w)

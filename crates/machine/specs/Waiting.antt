@@ -1,8 +1,7 @@
 -- The waiting list. A push touches the cells and the list and nothing else, so it is defined on those two alone.
 use Rattle.std.specs.Prelude.{ℕ, suc, Bool, true, false, cond, not, ◌||◌, List, [], ◌∷◌, Some, None, slice_index_or}
 use Rattle.machine.specs.declared.types.Colour.{Colour}
-use Rattle.machine.specs.declared.types.Cell.{Cell}
-use Rattle.machine.specs.declared.types.Cell.TheVariants.{Free}
+use Rattle.machine.specs.World.{Cell}
 use Rattle.machine.specs.World.{World, Name, see, same_colour, alter_at, greyen, with_heap}
 
 -- the cells and the waiting list
@@ -24,7 +23,7 @@ grey h x = record { cells = alter_at h.cells x greyen; waiting = x ∷ h.waiting
 -- a name is put on the list, unless its record is marked or waiting already, or it names none; m is the marked colour
 abbrev pub push : Colour → Heap → Name → Heap
 push m h None = h
-push m h (Some x) = cond (pale m (slice_index_or h.cells x Free)) (grey h x) h
+push m h (Some x) = cond (pale m (slice_index_or h.cells x None)) (grey h x) h
 
 -- one after the other, the first first
 unfoldable pub push_all : Colour → Heap → List Name → Heap

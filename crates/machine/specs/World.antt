@@ -6,14 +6,16 @@ use Rattle.machine.specs.declared.types.Colour.TheVariants.{Zero, One}
 use Rattle.machine.specs.declared.types.Phase.{Phase}
 use Rattle.machine.specs.declared.types.Phase.TheVariants.{Rest}
 use Rattle.machine.specs.declared.types.Record.{Record}
-use Rattle.machine.specs.declared.types.Cell.{Cell}
-use Rattle.machine.specs.declared.types.Cell.TheVariants.{Free, Used}
 use Rattle.machine.specs.declared.types.Update.{Update}
 use Rattle.machine.specs.declared.types.Card.{Card}
 
 -- a name: empty, or a cell number
 abbrev pub Name : Type 0
 Name = Option ℕ
+
+-- a cell: a record, or none where the cell is free
+abbrev pub Cell : Type 0
+Cell = Option Record
 
 -- a store: cells and contents (one for each cell), cards, the marked colour, the free and the waiting list (front first), the
 -- next serial, the closed rounds, the phase, the order number, which cards have answered, and the sweep cell
@@ -45,8 +47,8 @@ other One = Zero
 -- ---- what is read of a cell: d where it is free
 
 abbrev pub see : {A : Type 0} → (Record → A) → A → Cell → A
-see g d Free = d
-see g d (Used r) = g r
+see g d None = d
+see g d (Some r) = g r
 
 -- the first, if there is one, else the second
 abbrev pub log_or : Option (List Name) → List Name → List Name
@@ -59,7 +61,7 @@ view_of r = log_or r.log r.links
 
 -- cell x; past the table there is nothing but free cells
 abbrev pub at : {C : Type 0} → World C → ℕ → Cell
-at w x = slice_index_or w.cells x Free
+at w x = slice_index_or w.cells x None
 
 -- it holds a record; the record's serial, links, colour, marks and log, and what a trace sees of it
 abbrev pub used : {C : Type 0} → World C → ℕ → Bool
@@ -132,20 +134,20 @@ place w c p = slice_index_or (card w c).places p None
 
 -- a record edited; a free cell stays free
 abbrev pub alter : (Record → Record) → Cell → Cell
-alter f Free = Free
-alter f (Used r) = Used (f r)
+alter f None = None
+alter f (Some r) = Some (f r)
 
 -- edits the record in cell x; a free cell stays free
 unfoldable pub alter_at : List Cell → ℕ → (Record → Record) → List Cell
-alter_at h x f = slice_set h x (alter f (slice_index_or h x Free))
+alter_at h x f = slice_set h x (alter f (slice_index_or h x None))
 
 -- cell x becomes free
 unfoldable pub free_at : List Cell → ℕ → List Cell
-free_at h x = slice_set h x Free
+free_at h x = slice_set h x None
 
 -- record r stands in cell x from now on
 unfoldable pub born_at : List Cell → ℕ → Record → List Cell
-born_at h x r = slice_set h x (Used r)
+born_at h x r = slice_set h x (Some r)
 
 -- edits every record
 unfoldable pub alter_all : List Cell → (Record → Record) → List Cell
@@ -245,7 +247,7 @@ fresh_card rounds = record { places = Some 0 ∷ None ∷ None ∷ None ∷ None
 
 abbrev pub fresh : {C : Type 0} → ℕ → List C → ℕ → ℕ → ℕ → C → World C
 fresh n cs k first rounds x = record {
-  cells = born_at (replicate n Free) 0 (newborn first empty_links Zero);
+  cells = born_at (replicate n None) 0 (newborn first empty_links Zero);
   contents = slice_set cs 0 x;
   cards = replicate k (fresh_card rounds);
   marked = Zero;

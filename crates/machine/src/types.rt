@@ -43,12 +43,8 @@ pub struct Record {
     pub log: Option<[Option<u16>; 4]>,
 }
 
-/// A cell of the store's table: free, or with a record in it.
-#[derive(Clone, Copy)]
-pub enum Cell {
-    Free,
-    Used(Record),
-}
+/// A cell of the store's table: a record, or none where the cell is free.
+pub type Cell = Option<Record>;
 
 /// How far an update in hand has come: looked, with the draft if one was kept; then noted.
 #[derive(Clone, Copy)]
@@ -102,11 +98,13 @@ pub enum Call<C> {
     Settle,
 }
 
-/// What a call answers.
+/// What a call gives that is not refused.
 #[derive(Clone, Copy)]
-pub enum Answer<C> {
+pub enum Given<C> {
     Number(u32),
-    /// The serial and the contents of a record, which read answers.
+    /// The serial and the contents of a record, which read gives.
     Contents(u32, C),
-    Refused(Refusal),
 }
+
+/// What a call answers.
+pub type Answer<C> = Result<Given<C>, Refusal>;

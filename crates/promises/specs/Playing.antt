@@ -1,7 +1,7 @@
 -- What a played script, and one call of a panel, come to.
 use Rattle.std.specs.Prelude.{◌≡◌, ℕ, List, [], Ok, Err, vec_items, Option, Result, Vec}
 use Rattle.machine.specs.declared.types.Call.{Call}
-use Rattle.machine.specs.declared.types.Answer.{Answer}
+use Rattle.machine.specs.Acts.{Answer}
 use Rattle.machine.specs.World.{World}
 use Rattle.line.specs.Lines.{Meaning}
 use Rattle.laws.specs.Runs.{Ran}

@@ -21,7 +21,7 @@ pub fn run(rt: &HostRuntime) -> anyhow::Result<()> {
     let Ok(x) = Effect::new(1, 0) else {
         return Err(anyhow!("no contents to measure with"));
     };
-    let mut cells = vec![in heap; Cell::Free; 4096]?;
+    let mut cells = vec![in heap; None; 4096]?;
     let mut contents = vec![in heap; x; 4096]?;
     let Ok(plan) = Plan::check(heap, cells.as_mut_slice(), contents.as_mut_slice(), 8, 1, 0) else {
         return Err(anyhow!("no store to measure"));

@@ -1,14 +1,13 @@
 -- What a card makes of an order, in the steps of the code.
 use Rattle.std.proofs.Common.{◌≡◌, ℕ, ◌+◌, ◌%◌, ◌<◌, ◌≤◌, true, false, eqb, leb, List, ◌∷◌, length, Some, None, Ok, Option, sym, refl, ap, ◌∙◌, subst, arith, eq-eqb, ne_eqb, le-leb}
 use borrow.Author.Tests.{lt-leb}
-use Rattle.machine.specs.declared.types.Cell.TheVariants.{Free}
 use Rattle.machine.specs.declared.types.Card.{Card}
 use Rattle.machine.specs.World.{World, at, card, alter_card, with_cards}
 use Rattle.machine.specs.Waiting.{push_all, put_all}
 use Rattle.machine.specs.Rounds.{phase_number, heed, obey, attend_call, attend_done, reply_to, number_or_0, trace_call, trace_mark}
 use Rattle.store.specs.Over.{Said, AttendsBy}
 
-pub trace_none : {C : Type 0} (w v : World C) (k : ℕ) (ks : List ℕ) → phase_number w.phase ≡ 4 → w.waiting ≡ k ∷ ks → at w k ≡ Free → v ≡ trace_mark w k ks → trace_call w ≡ (Ok 0, v)
+pub trace_none : {C : Type 0} (w v : World C) (k : ℕ) (ks : List ℕ) → phase_number w.phase ≡ 4 → w.waiting ≡ k ∷ ks → at w k ≡ None → v ≡ trace_mark w k ks → trace_call w ≡ (Ok 0, v)
 unfolding push_all
 trace_none w v k ks p q e i = rw (p, q, e, i)
 

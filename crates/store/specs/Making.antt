@@ -1,7 +1,7 @@
 -- Making a store: what a check says, and what a plan says will be made.
 use Rattle.std.specs.Prelude.{◌≡◌, ℕ, Bool, true, false, List, length, Ok, Err, Result}
 use Rattle.refusal.specs.declared.kinds.Refusal.TheVariants.{OutOfRange}
-use Rattle.machine.specs.declared.types.Cell.{Cell}
+use Rattle.machine.specs.World.{Cell}
 use Rattle.machine.specs.World.{World, fresh}
 use Rattle.store.specs.Ready.{unfit}
 use Rattle.store.specs.declared.plan.Plan.{Plan}

@@ -1,8 +1,7 @@
-use Rattle.std.specs.Prelude.{◌≡◌, ℕ, ◌+◌, ◌*◌, ◌≤◌, cond, List, [], ◌∷◌, reverse, length, take, vec_items, vec_len, vec_capacity, Vec}
+use Rattle.std.specs.Prelude.{◌≡◌, ℕ, ◌+◌, ◌*◌, ◌≤◌, cond, List, [], ◌∷◌, reverse, length, take, vec_items, vec_len, vec_capacity, Vec, None, Some}
 use Rattle.machine.specs.declared.types.Phase.{Phase}
 use Rattle.machine.specs.declared.types.Phase.TheVariants.{Rest, Alert, Log, Gather, Trace, Ease, Sweep, Settle}
-use Rattle.machine.specs.declared.types.Cell.{Cell}
-use Rattle.machine.specs.declared.types.Cell.TheVariants.{Free, Used}
+use Rattle.machine.specs.World.{Cell}
 use Rattle.machine.specs.World.{World}
 use Rattle.store.specs.declared.types.Core.{Core}
 
@@ -28,8 +27,8 @@ model s = record {
 
 -- 1 of a cell that is free or waiting, else 0: such a cell may stand on one of the two lists
 abbrev pub spare : Cell → ℕ
-spare Free = 1
-spare (Used r) = cond r.waiting 1 0
+spare None = 1
+spare (Some r) = cond r.waiting 1 0
 
 unfoldable pub spares : List Cell → ℕ
 spares [] = 0

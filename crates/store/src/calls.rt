@@ -17,7 +17,7 @@ impl<C: Copy> Core<'_, C> {
     {
         let i = x as usize;
         if i >= self.cells.len() {
-            return Cell::Free;
+            return None;
         }
         self.cells[i]
     }
@@ -29,8 +29,8 @@ impl<C: Copy> Core<'_, C> {
             return None;
         };
         match self.at(x) {
-            Cell::Free => None,
-            Cell::Used(_) => v,
+            None => None,
+            Some(_) => v,
         }
     }
 
@@ -41,8 +41,8 @@ impl<C: Copy> Core<'_, C> {
             return 0;
         };
         match self.at(x) {
-            Cell::Free => 0,
-            Cell::Used(r) => r.serial,
+            None => 0,
+            Some(r) => r.serial,
         }
     }
 
@@ -51,8 +51,8 @@ impl<C: Copy> Core<'_, C> {
         ensures { result ≡ link (model self.now) x i }
     {
         match self.at(x) {
-            Cell::Free => None,
-            Cell::Used(r) => link_of(r, i),
+            None => None,
+            Some(r) => link_of(r, i),
         }
     }
 
@@ -130,7 +130,7 @@ impl<C: Copy> Core<'_, C> {
         put(
             self.cells,
             k as usize,
-            Cell::Used(newborn(serial, card.birth)),
+            Some(newborn(serial, card.birth)),
         );
         put(self.contents, k as usize, x);
         self.cards[c as usize] = with_place(card, p, Some(k));
@@ -180,7 +180,7 @@ impl<C: Copy> Core<'_, C> {
         let Some(y) = place_of(card, p) else {
             return Err(Refusal::Blank);
         };
-        let Cell::Used(r) = self.at(y) else {
+        let Some(r) = self.at(y) else {
             return Err(Refusal::Blank);
         };
         let target = self.named(place_of(card, q));

@@ -18,10 +18,10 @@ use std::alloc::Global;
 const LAST_ROUND: u32 = 1_073_741_823;
 
 fn clear_cells(cells: &mut [Cell])
-    ensures { cells.new ≡ replicate (length cells.old) Cell.Free }
+    ensures { cells.new ≡ replicate (length cells.old) None }
 {
     for cell in cells.iter_mut() {
-        *cell = Cell::Free;
+        *cell = None;
     }
 }
 
@@ -85,7 +85,7 @@ fn build<C: Copy>(draft: Draft<'_, C>, index: C) -> Core<'_, C>
     } = draft;
     fill_free(&mut free, cells.len());
     clear_cells(cells);
-    cells[0] = Cell::Used(newborn(first, Colour::Zero));
+    cells[0] = Some(newborn(first, Colour::Zero));
     contents[0] = index;
     let card = fresh_card(rounds);
     let state = RoundState {

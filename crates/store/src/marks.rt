@@ -63,7 +63,7 @@ impl<C: Copy> Core<'_, C> {
         let cell = self.at(k);
         let marked = self.state.marked;
         blacken(self.cells, k, marked);
-        let Cell::Used(r) = cell else {
+        let Some(r) = cell else {
             return Ok(0);
         };
         let view = view_of(r);

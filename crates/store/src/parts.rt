@@ -74,8 +74,8 @@ pub(crate) fn pale(m: Colour, cell: Cell) -> bool
     ensures { result ≡ pale m cell }
 {
     match cell {
-        Cell::Free => false,
-        Cell::Used(r) => !(r.colour == m || r.waiting),
+        None => false,
+        Some(r) => !(r.colour == m || r.waiting),
     }
 }
 
@@ -114,7 +114,7 @@ pub(crate) fn relink(cells: &mut [Cell], x: u16, i: u8, v: Option<u16>)
 {
     let at = x as usize;
     if at < cells.len() {
-        if let Cell::Used(r) = &mut cells[at] {
+        if let Some(r) = &mut cells[at] {
             relink_record(r, i, v);
         }
     }
@@ -126,7 +126,7 @@ pub(crate) fn log(cells: &mut [Cell], x: u16, d: Option<[Option<u16>; 4]>)
 {
     let at = x as usize;
     if at < cells.len() {
-        if let Cell::Used(r) = &mut cells[at] {
+        if let Some(r) = &mut cells[at] {
             log_record(r, d);
         }
     }
@@ -138,7 +138,7 @@ fn snoop(cells: &mut [Cell], x: u16)
 {
     let at = x as usize;
     if at < cells.len() {
-        if let Cell::Used(r) = &mut cells[at] {
+        if let Some(r) = &mut cells[at] {
             r.snooped = true;
         }
     }
@@ -158,14 +158,14 @@ pub(crate) fn snoop_on(cells: &mut [Cell], on: bool, v: Option<u16>)
 }
 
 pub(crate) fn greyen(cells: &mut [Cell], x: u16, m: Colour)
-    requires { pale m (slice_index_or cells.old x Cell.Free) ≡ true }
+    requires { pale m (slice_index_or cells.old x None) ≡ true }
     ensures does { cells.new ≡ alter_at cells.old x greyen }
     ensures room { spares cells.new ≡ spares cells.old + 1 }
     ensures most { spares cells.new ≤ length cells.new }
 {
     let at = x as usize;
     if at < cells.len() {
-        if let Cell::Used(r) = &mut cells[at] {
+        if let Some(r) = &mut cells[at] {
             r.waiting = true;
         }
     }
@@ -177,7 +177,7 @@ pub(crate) fn blacken(cells: &mut [Cell], x: u16, m: Colour)
 {
     let at = x as usize;
     if at < cells.len() {
-        if let Cell::Used(r) = &mut cells[at] {
+        if let Some(r) = &mut cells[at] {
             r.colour = m;
             r.waiting = false;
         }
@@ -199,7 +199,7 @@ pub(crate) fn after_sweep(n: usize, x: u16) -> Phase
 fn unlog_cell(cell: &mut Cell)
     ensures { cell.new ≡ alter unlog cell.old }
 {
-    if let Cell::Used(r) = cell {
+    if let Some(r) = cell {
         r.log = None;
     }
 }
@@ -216,7 +216,7 @@ pub(crate) fn unlog_all(cells: &mut [Cell])
 fn unsnoop_cell(cell: &mut Cell)
     ensures { cell.new ≡ alter unsnoop cell.old }
 {
-    if let Cell::Used(r) = cell {
+    if let Some(r) = cell {
         r.snooped = false;
     }
 }
@@ -234,8 +234,8 @@ pub(crate) fn snooped_name(cell: Cell, x: u16) -> Option<u16>
     ensures { result ≡ name_if (see (λ r. r.snooped) false cell) x }
 {
     match cell {
-        Cell::Free => None,
-        Cell::Used(r) => if r.snooped { Some(x) } else { None },
+        None => None,
+        Some(r) => if r.snooped { Some(x) } else { None },
     }
 }
 

@@ -40,13 +40,13 @@ impl<C: Copy> Core<'_, C> {
         let go = pale(self.state.marked, cell);
         self.state.sweep = x + 1;
         self.state.phase = after_sweep(self.cells.len(), x);
-        let Cell::Used(r) = cell else {
+        let Some(r) = cell else {
             return Ok(0);
         };
         if !go {
             return Ok(0);
         }
-        self.cells[x as usize] = Cell::Free;
+        self.cells[x as usize] = None;
         push(&mut self.free, x);
         Ok(r.serial)
     }

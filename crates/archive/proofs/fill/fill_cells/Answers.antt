@@ -1,6 +1,5 @@
-use Rattle.std.proofs.Common.{◌≡◌, ◌<◌, ◌≢◌, length, arith, rules, below_more}
+use Rattle.std.proofs.Common.{◌≡◌, ◌<◌, ◌≢◌, length, arith, rules, below_more, None}
 use Rattle.std.proofs.lemmas.List.{get_or-set_same, get_or-set_other}
-use Rattle.machine.specs.declared.types.Cell.TheVariants.{Free}
 use Rattle.archive.specs.Reading.{cell_in}
 use Rattle.archive.proofs.Runs.{tab_is}
 use Rattle.archive.proofs.fill.fill_cells.Goals as goal
@@ -14,4 +13,4 @@ loop-k-preserved c =
 pub returns : goal.returns
 returns c =
     let same : length c.loop-k.cells ≡ length c.args.cells.now = search rules in
-    tab_is (cell_in c.args.bytes.now) (length c.args.cells.now) Free c.loop-k.cells same (λ k h. c.loop-k.invariant k (omega arith))
+    tab_is (cell_in c.args.bytes.now) (length c.args.cells.now) None c.loop-k.cells same (λ k h. c.loop-k.invariant k (omega arith))

@@ -1,6 +1,5 @@
-use Rattle.std.proofs.Common.{◌≡◌, ◌+◌, ◌≤◌, false, [], length, take, set, replicate, ap, ◌∙◌, rules}
+use Rattle.std.proofs.Common.{◌≡◌, ◌+◌, ◌≤◌, false, [], length, take, set, replicate, ap, ◌∙◌, rules, None, Some}
 use lib.ListN.{length-replicate}
-use Rattle.machine.specs.declared.types.Cell.TheVariants.{Free, Used}
 use Rattle.machine.specs.World.{born_at}
 use Rattle.store.specs.Model.{stack, spares}
 use Rattle.store.proofs.Made.{made_spares, take_same}
@@ -16,7 +15,7 @@ returns g c =
     let t : stack d.waiting ≡ [] = stack_none d.waiting c.requires.4 in
     let k : take d.cards (replicate 8 c.fresh_card-card.result) ≡ replicate d.cards c.fresh_card-card.result = take_same d.cards 8 c.fresh_card-card.result few in
     let a : take d.cards (replicate 8 false) ≡ replicate d.cards false = take_same d.cards 8 false few in
-    let p : n ≤ spares (set (replicate n Free) 0 (Used c.newborn.result)) + 1 = made_spares n (Used c.newborn.result) in
-    let q : spares (set c.clear_cells.new.cells 0 (Used c.newborn.result)) ≡ spares (set (replicate n Free) 0 (Used c.newborn.result)) = ap (λ h. spares (set h 0 (Used c.newborn.result))) c.clear_cells.ensures in
-    let l : length c.clear_cells.new.cells ≡ n = ap length c.clear_cells.ensures ∙ length-replicate n Free in
+    let p : n ≤ spares (set (replicate n None) 0 (Some c.newborn.result)) + 1 = made_spares n (Some c.newborn.result) in
+    let q : spares (set c.clear_cells.new.cells 0 (Some c.newborn.result)) ≡ spares (set (replicate n None) 0 (Some c.newborn.result)) = ap (λ h. spares (set h 0 (Some c.newborn.result))) c.clear_cells.ensures in
+    let l : length c.clear_cells.new.cells ≡ n = ap length c.clear_cells.ensures ∙ length-replicate n None in
     record { made = search (rules, t, k, a); sound = search rules }

@@ -1,6 +1,5 @@
-use Rattle.std.proofs.Common.{◌≡◌, ℕ, ◌<◌, get_or}
-use Rattle.machine.specs.declared.types.Cell.TheVariants.{Free}
+use Rattle.std.proofs.Common.{◌≡◌, ℕ, ◌<◌, get_or, None}
 use Rattle.store.proofs.making.clear_cells.Given as goal
 
 abbrev pub invariant-loop-cell : goal.invariant-loop-cell
-invariant-loop-cell l = (k : ℕ) → k < l.cell-index → get_or l.cells k Free ≡ Free
+invariant-loop-cell l = (k : ℕ) → k < l.cell-index → get_or l.cells k None ≡ None

@@ -1,9 +1,9 @@
-use Rattle.std.proofs.Common.{arith, rules}
+use Rattle.std.proofs.Common.{arith, rules, Some}
 use Rattle.store.proofs.Cells.{alter_used, kept_free, kept_spares, alter_past, spares_low}
 use Rattle.store.proofs.parts.blacken.Goals as goal
 
-pub returns-in-Used : goal.returns-in-Used
-returns-in-Used c = record { does = search (rules, alter_used); room = search (rules, spares_low) }
+pub returns-in-Some : goal.returns-in-Some
+returns-in-Some c = record { does = search (rules, alter_used); room = search (rules, spares_low) }
 
 pub returns-in_default : goal.returns-in_default
 returns-in_default c = record { does = search (rules, kept_free); room = omega (arith, kept_spares c.args.cells.now c.args.x) }

@@ -1,10 +1,10 @@
-use Rattle.std.proofs.Common.{◌≡◌, refl, ap, rules}
+use Rattle.std.proofs.Common.{◌≡◌, refl, ap, rules, Some}
 use Rattle.store.proofs.Cells.{alter_used, kept_free, kept_spares, alter_past, spares_same}
 use Rattle.store.proofs.parts.log.Goals as goal
 
-pub returns-in-Used : goal.returns-in-Used
-returns-in-Used c =
-    let w : c.log_record.new.r.waiting ≡ c.in-Used.r.waiting = ap (λ s. s.waiting) c.log_record.ensures in
+pub returns-in-Some : goal.returns-in-Some
+returns-in-Some c =
+    let w : c.log_record.new.r.waiting ≡ c.in-Some.r.waiting = ap (λ s. s.waiting) c.log_record.ensures in
     record { does = search (rules, alter_used); room = search (rules, spares_same) }
 
 pub returns-in_default : goal.returns-in_default

@@ -1,9 +1,9 @@
-use Rattle.std.proofs.Common.{refl, rules}
+use Rattle.std.proofs.Common.{refl, rules, Some}
 use Rattle.store.proofs.Cells.{alter_used, kept_free, kept_spares, alter_past, spares_same}
 use Rattle.store.proofs.parts.snoop.Goals as goal
 
-pub returns-in-Used : goal.returns-in-Used
-returns-in-Used c = record { does = search (rules, alter_used); room = search (rules, spares_same) }
+pub returns-in-Some : goal.returns-in-Some
+returns-in-Some c = record { does = search (rules, alter_used); room = search (rules, spares_same) }
 
 pub returns-in_default : goal.returns-in_default
 returns-in_default c = record { does = search (rules, kept_free); room = kept_spares c.args.cells.now c.args.x }
