@@ -5,7 +5,7 @@ ghost use Rattle.promises.specs.Acting.{ActBy};
 ghost use Rattle.promises.specs.Playing.{Played};
 
 use line::Line;
-use machine::types::{Answer, Call};
+use machine::types::{Answer, Call, Given};
 use refusal::Refusal;
 use std::alloc::{AllocError, Global};
 use store::Store;
@@ -14,10 +14,7 @@ use store::Store;
 fn told<C>(r: Result<u32, Refusal>) -> Answer<C>
     ensures { result ≡ answer r }
 {
-    match r {
-        Ok(number) => Answer::Number(number),
-        Err(refusal) => Answer::Refused(refusal),
-    }
+    r.map(Given::Number)
 }
 
 /// Makes one call.
@@ -33,10 +30,7 @@ pub(crate) fn make_call<C: Copy, L: Line>(
         Call::Load(c, p, i, q) => told(store.load(c, p, i, q)),
         Call::Copy(c, p, q) => told(store.copy(c, p, q)),
         Call::Drop(c, p) => told(store.drop_place(c, p)),
-        Call::Read(c, p) => match store.read(c, p) {
-            Ok((serial, x)) => Answer::Contents(serial, x),
-            Err(refusal) => Answer::Refused(refusal),
-        },
+        Call::Read(c, p) => store.read(c, p).map(|(serial, x)| Given::Contents(serial, x)),
         Call::Look(c, p, i, q) => told(store.look(c, p, i, q)),
         Call::Note(c) => told(store.note(c)),
         Call::Store(c) => told(store.store(c)),
