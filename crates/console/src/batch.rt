@@ -2,7 +2,7 @@
 use crate::desk::Desk;
 use crate::told::Told;
 use crate::wire::Wire;
-use machine::types::{Answer, Call};
+use machine::types::{Answer, Call, Given};
 use store::Store;
 
 const MOST: usize = 1000;
@@ -58,12 +58,12 @@ impl<C: Told> Batch<C> {
 
 fn tell<C: Told>(rt: &HostRuntime, answer: &Answer<C>) -> anyhow::Result<()> {
     match answer {
-        Answer::Number(number) => print!(rt; "{number}")?,
-        Answer::Contents(serial, x) => {
+        Ok(Given::Number(number)) => print!(rt; "{number}")?,
+        Ok(Given::Contents(serial, x)) => {
             print!(rt; "{serial} ")?;
             x.show(rt)?;
         }
-        Answer::Refused(refusal) => {
+        Err(refusal) => {
             let number = refusal.number();
             print!(rt; "refused {number}")?;
         }
