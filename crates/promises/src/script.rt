@@ -1,21 +1,12 @@
 ghost use Rattle.std.specs.Prelude.{◌≡◌};
-ghost use Rattle.machine.specs.Acts.{answer};
 ghost use Rattle.store.specs.World.{world};
 ghost use Rattle.promises.specs.Acting.{ActBy};
 ghost use Rattle.promises.specs.Playing.{Played};
 
 use line::Line;
 use machine::types::{Answer, Call, Given};
-use refusal::Refusal;
 use std::alloc::{AllocError, Global};
 use store::Store;
-
-// A number or a refusal as an answer.
-fn told<C>(r: Result<u32, Refusal>) -> Answer<C>
-    ensures { result ≡ answer r }
-{
-    r.map(Given::Number)
-}
 
 /// Makes one call.
 pub(crate) fn make_call<C: Copy, L: Line>(
@@ -25,23 +16,27 @@ pub(crate) fn make_call<C: Copy, L: Line>(
 ) -> Answer<C>
     ensures { ActBy L.Line.sends L.Line.fetches L.Line.replies L.Line.collects (world store.old) line.old call result (world store.new) line.new }
 {
-    match call {
-        Call::New(c, p, x) => told(store.new(c, p, x)),
-        Call::Load(c, p, i, q) => told(store.load(c, p, i, q)),
-        Call::Copy(c, p, q) => told(store.copy(c, p, q)),
-        Call::Drop(c, p) => told(store.drop_place(c, p)),
-        Call::Read(c, p) => store.read(c, p).map(|(serial, x)| Given::Contents(serial, x)),
-        Call::Look(c, p, i, q) => told(store.look(c, p, i, q)),
-        Call::Note(c) => told(store.note(c)),
-        Call::Store(c) => told(store.store(c)),
-        Call::Open => told(store.open()),
-        Call::Knock(c) => told(store.knock(c, line)),
-        Call::Attend(c) => told(store.attend(c, line)),
-        Call::Hear(c) => told(store.hear(c, line)),
-        Call::Trace => told(store.trace()),
-        Call::Sweep => told(store.sweep()),
-        Call::Settle => told(store.settle()),
-    }
+    let number = match call {
+        Call::New(c, p, x) => store.new(c, p, x)?,
+        Call::Load(c, p, i, q) => store.load(c, p, i, q)?,
+        Call::Copy(c, p, q) => store.copy(c, p, q)?,
+        Call::Drop(c, p) => store.drop_place(c, p)?,
+        Call::Read(c, p) => {
+            let (serial, x) = store.read(c, p)?;
+            return Ok(Given::Contents(serial, x));
+        }
+        Call::Look(c, p, i, q) => store.look(c, p, i, q)?,
+        Call::Note(c) => store.note(c)?,
+        Call::Store(c) => store.store(c)?,
+        Call::Open => store.open()?,
+        Call::Knock(c) => store.knock(c, line)?,
+        Call::Attend(c) => store.attend(c, line)?,
+        Call::Hear(c) => store.hear(c, line)?,
+        Call::Trace => store.trace()?,
+        Call::Sweep => store.sweep()?,
+        Call::Settle => store.settle()?,
+    };
+    Ok(Given::Number(number))
 }
 
 /// Plays a script: makes every call, in order, and gives back the answers. Memory for the answers is taken first: where
@@ -55,8 +50,8 @@ pub fn play<C: Copy, L: Line>(
     ensures { Played L.Line.means L.Line.sends L.Line.fetches L.Line.replies L.Line.collects (world store.old) line.old script.now result (world store.new) line.new }
 {
     let mut answers = Vec::with_capacity(heap, script.len())?;
-    for i in 0..script.len() {
-        let answer = make_call(store, line, script[i]);
+    for call in script {
+        let answer = make_call(store, line, *call);
         answers.push_reserved(answer);
     }
     Ok(answers)
