@@ -12,6 +12,7 @@ use Rattle.machine.specs.Cards.{new_done, load_done, copy_done, drop_done, look_
 use Rattle.machine.specs.Rounds.{enter, trace_done, trace_mark, leave_gather, start_sweep, obey, sweep_keep, sweep_free}
 use Rattle.line.specs.Lines.{Meaning}
 use Rattle.laws.specs.Steps.{Start}
+use Rattle.laws.proofs.KeptNames.{none_empty}
 use Rattle.laws.proofs.Frames.{frame, snooped_names-at, view_at_lem}
 use Rattle.laws.proofs.Pushes.{Told, push_all_tells, push_all_catches}
 use Rattle.laws.proofs.Cases.{Change, same, news, loads, copies, drops, looks, notes, stores, opens, obeys, hears, logs, gathers, leaves, sweeps, traces, eases, keeps, frees, settles, answered_by}
@@ -157,13 +158,6 @@ module _ {C : Type 0} (w : World C) (k : ℕ) (ks : List ℕ) (K : used w k ≡ 
 
 -- ---- the group
 
-no_link : (i : ℕ) → get_or empty_links i None ≡ None
-no_link zero = refl
-no_link (suc zero) = refl
-no_link (suc (suc zero)) = refl
-no_link (suc (suc (suc zero))) = refl
-no_link (suc (suc (suc (suc i)))) = refl
-
 module _ {C : Type 0} (w : World C) (m : Meaning) (I : Inv w m) where
   -- a place that holds something is a card's
   inside : (c q x : ℕ) → place w c q ≡ Some x → c < length w.cards
@@ -208,7 +202,7 @@ module _ {C : Type 0} (w : World C) (m : Meaning) (I : Inv w m) where
       let F : (k < length w.cells) × (used w k ≡ false) = I.lists.free_is k (rw f (inl refl)) in
       let v : World C = new_done w c p z k ks in
       let up : (x : ℕ) → Covered w x → Covered v x = new_covered w c p z k ks F.1 in
-      let old : (y i x : ℕ) → link v y i ≡ Some x → (link w y i ≡ Some x) × (view w y i ≡ view v y i) × (mark v y ≡ mark w y) = λ y i x e. (grind (frame, F, no_link i), grind (frame, F, no_link i), grind (frame, F, no_link i)) in
+      let old : (y i x : ℕ) → link v y i ≡ Some x → (link w y i ≡ Some x) × (view w y i ≡ view v y i) × (mark v y ≡ mark w y) = λ y i x e. (grind (frame, F, none_empty i), grind (frame, F, none_empty i), grind (frame, F, none_empty i)) in
       let held : (d q x : ℕ) → gathered v d ≡ true → place v d q ≡ Some x → ((gathered w d ≡ true) × (place w d q ≡ Some x)) ⊎ (mark v x ≡ true) = λ d q x g e. grind (frame, F, I.switches.birth c a) in
       record {
         logged = λ l y i x e. let o = old y i x e in elim (I.coverage.logged l y i x o.0) [ inl b ↦ inl (sym o.1 ∙ b) | inr b ↦ inr (grind (frame, F)) ];
