@@ -1,5 +1,5 @@
 -- Which numbers make an event, and the two laws of its form. Assumes nothing.
-use Rattle.std.specs.Prelude.{◌≡◌, ℕ, ◌<◌, Bool, true, cond, List, [], ◌∷◌, drop, Some, None, Option, slice_index, refl}
+use Rattle.std.specs.Prelude.{◌≡◌, ℕ, ◌<◌, Bool, true, cond, List, [], ◌∷◌, drop, find, Some, None, Option, slice_index, refl}
 use Rattle.std.proofs.Common.{sym, ap, subst, ◌∙◌, inl, inr, arith}
 use Rattle.std.proofs.Math.Decide.{dec_lt}
 use denote.Struct.Props.{props}
@@ -7,7 +7,7 @@ use Rattle.std.proofs.lemmas.Bool.{cases_Bool, eqb-true}
 use Rattle.octets.specs.Numbers.{un16, un32}
 use Rattle.octets.proofs.Numbers.{un_le16, un_le32}
 use Rattle.contents.specs.Ranges.{Within, within}
-use Rattle.contents.specs.Kinds.{kinds, kind_number, first, number_is, kind_numbered}
+use Rattle.contents.specs.Kinds.{kinds, kind_number, number_is, kind_numbered}
 use Rattle.contents.specs.Events.{event_if, event_of, event_form, event_read}
 use Rattle.contents.specs.Readings.{kept_back, kept_forth}
 use Rattle.contents.specs.declared.kind.Kind.{Kind}
@@ -35,12 +35,12 @@ numbered Silenced = refl
 numbered Reset = refl
 
 -- a kind that was found by a number has it, so the number is small
-found_passes : (test : Kind → Bool) (ks : List Kind) (k : Kind) → first test ks ≡ Some k → test k ≡ true
+found_passes : (test : Kind → Bool) (ks : List Kind) (k : Kind) → find test ks ≡ Some k → test k ≡ true
 found_passes test [] k e = let z : ◌≡◌ {A = ℕ} 0 1 = cc in absurd (omega arith)
 found_passes test (j ∷ ks) k e =
     elim (cases_Bool (test j)) [
-      | inl t ↦ let i : j ≡ k = cc (ap (λ b. cond b (Some j) (first test ks)) t) in subst (λ x. test x ≡ true) i t
-      | inr f ↦ found_passes test ks k (ap (λ b. cond b (Some j) (first test ks)) (sym f) ∙ e)
+      | inl t ↦ let i : j ≡ k = cc (ap (λ b. cond b (Some j) (find test ks)) t) in subst (λ x. test x ≡ true) i t
+      | inr f ↦ found_passes test ks k (ap (λ b. cond b (Some j) (find test ks)) (sym f) ∙ e)
     ]
 
 number_small : (k : Kind) → kind_number k < 256

@@ -1,7 +1,8 @@
 -- The kinds of event: all of them, their numbers and their words. Assumes nothing.
-use Rattle.std.specs.Prelude.{ℕ, Bool, cond, List, [], ◌∷◌, Some, None, codes, Option, ◌==◌}
+use Rattle.std.specs.Prelude.{ℕ, Bool, List, [], ◌∷◌, codes, find, Option, ◌==◌}
 use Rattle.std.specs.Str.{bytes_eq}
 use Rattle.contents.specs.declared.kind.Kind.{Kind}
+use Rattle.contents.specs.declared.kind.UnknownKind.{UnknownKind}
 use Rattle.contents.specs.declared.kind.Kind.TheVariants.{Fire, Fault, Test, Acknowledged, Silenced, Reset}
 
 -- every kind, in the order of the numbers
@@ -24,20 +25,20 @@ kind_word Acknowledged = codes "acknowledged"
 kind_word Silenced = codes "silenced"
 kind_word Reset = codes "reset"
 
--- the first kind of a list that passes a test
-abbrev pub first : (Kind → Bool) → List Kind → Option Kind
-first test [] = None
-first test (k ∷ ks) = cond (test k) (Some k) (first test ks)
-
+-- whether a kind has this number, and whether it has this word
 abbrev pub number_is : ℕ → Kind → Bool
 number_is n k = kind_number k == n
 
 abbrev pub word_is : List ℕ → Kind → Bool
 word_is word k = bytes_eq (kind_word k) word
 
--- the kind with a number, and the kind with a word
+-- the kind with a number, and the kind with a word, if there is one
 unfoldable pub kind_numbered : ℕ → Option Kind
-kind_numbered n = first (number_is n) kinds
+kind_numbered n = find (number_is n) kinds
 
 unfoldable pub kind_called : List ℕ → Option Kind
-kind_called word = first (word_is word) kinds
+kind_called word = find (word_is word) kinds
+
+-- what is wrong with a word that is no kind's
+abbrev pub unknown_kind : UnknownKind
+unknown_kind = record {}

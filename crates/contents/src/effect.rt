@@ -2,7 +2,7 @@ ghost use Rattle.std.specs.Prelude.{◌≤◌};
 ghost use Rattle.contents.specs.Ranges.{Within};
 
 /// What the panel does: a relay output, after a delay in seconds. Only effects in range exist.
-#[derive(Clone, Copy)]
+#[derive(Clone, Copy, PartialEq, Eq, Debug)]
 pub struct Effect {
     /// 1 to 64.
     pub relay: u16,

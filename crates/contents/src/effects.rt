@@ -6,7 +6,7 @@ ghost use Rattle.contents.specs.EffectLaws;
 ghost use Rattle.std.proofs.Common.{rules};
 
 use crate::effect::Effect;
-use crate::form::{Contents, same_form};
+use crate::form::Contents;
 use refusal::Refusal;
 use std::fmt;
 
@@ -19,10 +19,7 @@ impl Effect {
     pub fn new(relay: u16, delay: u16) -> Result<Effect, Refusal>
         ensures { result ≡ ok_or (effect_of relay delay) OutOfRange }
     {
-        if relay < 1 || relay > LAST_RELAY {
-            return Err(Refusal::OutOfRange);
-        }
-        if delay > LONGEST_DELAY {
+        if !(1..=LAST_RELAY).contains(&relay) || delay > LONGEST_DELAY {
             return Err(Refusal::OutOfRange);
         }
         Ok(Effect { relay, delay })
@@ -54,17 +51,14 @@ impl Contents for Effect {
         [r0, r1, d0, d1, 0, 0, 0, 0, 0, 0, 0, 0, 0, 0, 0, 0]
     }
 
+    #[tactic(auto, unfolding(crate::specs::Effects::effect_read))]
     fn reading(bytes: &[u8; 16]) -> Option<Effect> {
-        let relay = u16::from_le_bytes([bytes[0], bytes[1]]);
-        let delay = u16::from_le_bytes([bytes[2], bytes[3]]);
-        let Ok(effect) = Effect::new(relay, delay) else {
-            return None;
-        };
-        if same_form(&effect.form(), bytes) {
-            Some(effect)
-        } else {
-            None
-        }
+        let [r0, r1, d0, d1, ..] = *bytes;
+        let relay = u16::from_le_bytes([r0, r1]);
+        let delay = u16::from_le_bytes([d0, d1]);
+        Effect::new(relay, delay)
+            .ok()
+            .filter(|effect| effect.form() == *bytes)
     }
 }
 

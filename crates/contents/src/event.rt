@@ -4,7 +4,7 @@ ghost use Rattle.contents.specs.Ranges.{Within};
 use crate::kind::Kind;
 
 /// Something that happened at a device: when, where and what. Only events in range exist.
-#[derive(Clone, Copy)]
+#[derive(Clone, Copy, PartialEq, Eq, Debug)]
 pub struct Event {
     /// Any number of 32 bits.
     pub moment: u32,

@@ -6,7 +6,7 @@ ghost use Rattle.contents.specs.EventLaws;
 ghost use Rattle.std.proofs.Common.{rules};
 
 use crate::event::Event;
-use crate::form::{Contents, same_form};
+use crate::form::Contents;
 use crate::kind::Kind;
 use refusal::Refusal;
 use std::fmt;
@@ -20,20 +20,15 @@ impl Event {
     pub fn new(moment: u32, device: u16, zone: u16, kind: u8) -> Result<Event, Refusal>
         ensures { result ≡ ok_or (event_of moment device zone kind) OutOfRange }
     {
-        let Some(known) = Kind::numbered(kind) else {
-            return Err(Refusal::OutOfRange);
-        };
-        if device < 1 || device > LAST_DEVICE {
-            return Err(Refusal::OutOfRange);
-        }
-        if zone < 1 || zone > LAST_ZONE {
+        let kind = Kind::try_from(kind)?;
+        if !(1..=LAST_DEVICE).contains(&device) || !(1..=LAST_ZONE).contains(&zone) {
             return Err(Refusal::OutOfRange);
         }
         Ok(Event {
             moment,
             device,
             zone,
-            kind: known,
+            kind,
         })
     }
 }
@@ -65,18 +60,15 @@ impl Contents for Event {
         [m0, m1, m2, m3, d0, d1, z0, z1, kind, 0, 0, 0, 0, 0, 0, 0]
     }
 
+    #[tactic(auto, unfolding(crate::specs::Events::event_read))]
     fn reading(bytes: &[u8; 16]) -> Option<Event> {
-        let moment = u32::from_le_bytes([bytes[0], bytes[1], bytes[2], bytes[3]]);
-        let device = u16::from_le_bytes([bytes[4], bytes[5]]);
-        let zone = u16::from_le_bytes([bytes[6], bytes[7]]);
-        let Ok(event) = Event::new(moment, device, zone, bytes[8]) else {
-            return None;
-        };
-        if same_form(&event.form(), bytes) {
-            Some(event)
-        } else {
-            None
-        }
+        let [m0, m1, m2, m3, d0, d1, z0, z1, kind, ..] = *bytes;
+        let moment = u32::from_le_bytes([m0, m1, m2, m3]);
+        let device = u16::from_le_bytes([d0, d1]);
+        let zone = u16::from_le_bytes([z0, z1]);
+        Event::new(moment, device, zone, kind)
+            .ok()
+            .filter(|event| event.form() == *bytes)
     }
 }
 
@@ -87,8 +79,8 @@ impl fmt::Display for Event {
         let moment = self.moment;
         let device = self.device;
         let zone = self.zone;
-        let word = self.kind.word();
-        write!(f, "moment {moment} device {device} zone {zone} kind {word}")
+        let kind = self.kind;
+        write!(f, "moment {moment} device {device} zone {zone} kind {kind}")
     }
 }
 

@@ -1,5 +1,4 @@
 ghost use Rattle.std.specs.Prelude.{◌≡◌, ℕ, List, length, Some, Option as Maybe};
-ghost use Rattle.std.specs.Str.{bytes_eq};
 
 /// A kind of contents with a form of sixteen bytes, which an archive can hold.
 pub trait Contents: Sized + Copy {
@@ -32,11 +31,4 @@ pub trait Contents: Sized + Copy {
 
     // a value that was read has those bytes as its form
     ghost forth: { (bytes : List ℕ) (x : Self) → read bytes ≡ Some x → form x ≡ bytes };
-}
-
-// Whether two forms are the same.
-pub(crate) fn same_form(a: &[u8; 16], b: &[u8; 16]) -> bool
-    ensures { result ≡ bytes_eq a.now b.now }
-{
-    *a == *b
 }

@@ -8,9 +8,8 @@ mod event;
 mod events;
 mod form;
 mod kind;
-mod kinds;
 
 pub use effect::Effect;
 pub use event::Event;
 pub use form::Contents;
-pub use kind::Kind;
+pub use kind::{Kind, UnknownKind};

@@ -1,7 +1,8 @@
 -- The leaky line: queues of up to four numbers a card and way, and a pattern of 32 bits that says which sendings are lost.
 -- All sendings of both ways are counted together, from 0. Cards 0 to 7. Assumes nothing.
-use Rattle.std.specs.Prelude.{ℕ, ◌+◌, ◌/◌, ◌%◌, ◌^◌, Bool, cond, List, [], ◌∷◌, ◌++◌, map, length, Some, None, Option, ◌==◌, nat_lt, slice_index_or, slice_set}
+use Rattle.std.specs.Prelude.{ℕ, ◌+◌, ◌/◌, ◌%◌, ◌^◌, Bool, cond, List, [], ◌∷◌, ◌++◌, map, length, ◌==◌, nat_lt}
 use Rattle.line.specs.Lines.{Meaning}
+use Rattle.line.specs.Way.{Queues, queue, put_in, taken_from}
 use Rattle.line.specs.declared.queue.Queue.{Queue}
 use Rattle.line.specs.declared.queue.Queue.TheVariants.{Empty, One, Two, Three, Four}
 use Rattle.line.specs.declared.leaky.Leaky.{Leaky}
@@ -14,10 +15,6 @@ held (Two a b) = a ∷ b ∷ []
 held (Three a b c) = a ∷ b ∷ c ∷ []
 held (Four a b c d) = a ∷ b ∷ c ∷ d ∷ []
 
--- a way of the line: for each card its queue
-abbrev pub Queues : Type 0
-Queues = List (List ℕ)
-
 -- the whole line: both ways, the pattern, and the count of sendings so far, of which only the remainder by 32 matters
 pub record Wire : Type 0 where
   pub orders : Queues
@@ -26,13 +23,10 @@ pub record Wire : Type 0 where
   pub count : ℕ
 
 abbrev pub wire : Leaky → Wire
-wire l = record { orders = map held l.orders; replies = map held l.replies; pattern = l.pattern; count = l.count }
-
-abbrev pub queue : Queues → ℕ → List ℕ
-queue qs c = slice_index_or qs c []
+wire l = record { orders = map held l.orders.slots; replies = map held l.replies.slots; pattern = l.pattern; count = l.count }
 
 abbrev pub leaky_means : Leaky → Meaning
-leaky_means l = record { orders = queue (map held l.orders); replies = queue (map held l.replies) }
+leaky_means l = record { orders = queue (wire l).orders; replies = queue (wire l).replies }
 
 -- sending number j is lost where bit j mod 32 of the pattern is 1
 abbrev pub lost : ℕ → ℕ → Bool
@@ -44,15 +38,7 @@ joins q n = cond (nat_lt (length q) 4) (q ++ (n ∷ [])) q
 
 -- a sending to card c, which is lost or not
 abbrev pub sent_to : Bool → Queues → ℕ → ℕ → Queues
-sent_to gone qs c n = cond gone qs (slice_set qs c (joins (queue qs c) n))
-
-abbrev pub front : List ℕ → Option ℕ
-front [] = None
-front (x ∷ xs) = Some x
-
-abbrev pub later : List ℕ → List ℕ
-later [] = []
-later (x ∷ xs) = xs
+sent_to gone qs c n = cond gone qs (put_in joins qs c n)
 
 -- one sending more is counted
 abbrev pub counted : Wire → Wire
@@ -65,11 +51,8 @@ order_sent w c n = cond (nat_lt c 8) (record { orders = sent_to (lost w.pattern 
 abbrev pub reply_sent : Wire → ℕ → ℕ → Wire
 reply_sent w c n = cond (nat_lt c 8) (record { orders = w.orders; replies = sent_to (lost w.pattern w.count) w.replies c n; pattern = w.pattern; count = (w.count + 1) % 32 }) w
 
-abbrev pub first_of : Queues → ℕ → Option ℕ
-first_of qs c = cond (nat_lt c 8) (front (queue qs c)) None
-
 abbrev pub order_off : Wire → ℕ → Wire
-order_off w c = cond (nat_lt c 8) (record { orders = slice_set w.orders c (later (queue w.orders c)); replies = w.replies; pattern = w.pattern; count = w.count }) w
+order_off w c = record { orders = taken_from w.orders c; replies = w.replies; pattern = w.pattern; count = w.count }
 
 abbrev pub reply_off : Wire → ℕ → Wire
-reply_off w c = cond (nat_lt c 8) (record { orders = w.orders; replies = slice_set w.replies c (later (queue w.replies c)); pattern = w.pattern; count = w.count }) w
+reply_off w c = record { orders = w.orders; replies = taken_from w.replies c; pattern = w.pattern; count = w.count }

@@ -1,7 +1,6 @@
 pub mod Lines
+pub mod Way
 pub mod Direct
 pub mod Leaky
 pub mod Passing
-pub mod Rows
-pub mod DirectLineLemmas
-pub mod LeakyLineLemmas
+pub mod WayLemmas

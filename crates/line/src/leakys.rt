@@ -1,38 +1,18 @@
-ghost use Rattle.std.specs.Prelude.{◌≡◌, ◌<◌, [], map, length, replicate, nat_lt, slice_set};
+ghost use Rattle.std.specs.Prelude.{◌≡◌, [], replicate, nat_lt};
 ghost use Rattle.std.proofs.Common.{ap, ◌∙◌};
-ghost use Rattle.line.specs.Leaky.{held, wire, queue, leaky_means, lost, counted, sent_to, front, later, first_of, order_sent, order_off, reply_sent, reply_off, Wire};
-ghost use Rattle.line.specs.LeakyLineLemmas.{put, field, both, taken};
+ghost use Rattle.line.specs.Way.{first_of};
+ghost use Rattle.line.specs.Leaky.{wire, leaky_means, lost, counted, order_sent, order_off, reply_sent, reply_off, Wire};
+ghost use Rattle.line.specs.WayLemmas.{put_or_lost, field, both, taken};
 
 use crate::leaky::Leaky;
 use crate::link::Line;
 use crate::queue::Queue;
+use crate::way::Way;
 
 fn is_lost(pattern: u32, count: u32) -> bool
     ensures { result ≡ lost pattern count }
 {
     (pattern >> (count % 32)) % 2 == 1
-}
-
-// What a sending makes of one way.
-fn enter(way: &mut [Queue], card: usize, number: u32, gone: bool)
-    requires { card < length way.old }
-    ensures { map held way.new ≡ sent_to gone (map held way.old) card number }
-{
-    if !gone {
-        let q = way[card];
-        way[card] = q.joined(number);
-    }
-}
-
-// What a taking gives and makes of one way.
-fn leave(way: &mut [Queue], card: usize) -> Option<u32>
-    requires { card < length way.old }
-    ensures got { result ≡ front (queue (map held way.old) card) }
-    ensures left { map held way.new ≡ slice_set (map held way.old) card (later (queue (map held way.old) card)) }
-{
-    let q = way[card];
-    way[card] = q.rest();
-    q.first()
 }
 
 impl Leaky {
@@ -41,8 +21,8 @@ impl Leaky {
         ensures { wire result ≡ record { orders = replicate 8 []; replies = replicate 8 []; pattern = pattern; count = 0 } }
     {
         Leaky {
-            orders: [Queue::Empty; 8],
-            replies: [Queue::Empty; 8],
+            orders: Way::all(Queue::Empty),
+            replies: Way::all(Queue::Empty),
             pattern,
             count: 0,
         }
@@ -71,47 +51,37 @@ impl Line for Leaky {
     ghost collects = { λ s c got t. (got ≡ first_of (wire s).replies c) × (wire t ≡ reply_off (wire s) c) };
 
     ghost sending = { λ s t c n h.
-        put (nat_lt c 8) (lost s.pattern s.count) (wire s).orders (wire t).orders (wire s).replies (wire t).replies c n
+        put_or_lost (nat_lt c 8) (lost s.pattern s.count) (wire s).orders (wire t).orders (wire s).replies (wire t).replies c n
         (ap (λ (w : Wire). w.orders) h ∙ field (λ w. w.orders) (nat_lt c 8) _ _) (ap (λ (w : Wire). w.replies) h ∙ field (λ w. w.replies) (nat_lt c 8) _ _ ∙ both (nat_lt c 8) _) };
 
     ghost fetching = { λ s t c got h.
-        taken (nat_lt c 8) (wire s).orders (wire t).orders (wire s).replies (wire t).replies c got h.0
-        (ap (λ (w : Wire). w.orders) h.1 ∙ field (λ w. w.orders) (nat_lt c 8) _ _) (ap (λ (w : Wire). w.replies) h.1 ∙ field (λ w. w.replies) (nat_lt c 8) _ _ ∙ both (nat_lt c 8) _) };
+        taken (wire s).orders (wire t).orders (wire s).replies (wire t).replies c got h.0 (ap (λ (w : Wire). w.orders) h.1) (ap (λ (w : Wire). w.replies) h.1) };
 
     ghost replying = { λ s t c n h.
-        put (nat_lt c 8) (lost s.pattern s.count) (wire s).replies (wire t).replies (wire s).orders (wire t).orders c n
+        put_or_lost (nat_lt c 8) (lost s.pattern s.count) (wire s).replies (wire t).replies (wire s).orders (wire t).orders c n
         (ap (λ (w : Wire). w.replies) h ∙ field (λ w. w.replies) (nat_lt c 8) _ _) (ap (λ (w : Wire). w.orders) h ∙ field (λ w. w.orders) (nat_lt c 8) _ _ ∙ both (nat_lt c 8) _) };
 
     ghost collecting = { λ s t c got h.
-        taken (nat_lt c 8) (wire s).replies (wire t).replies (wire s).orders (wire t).orders c got h.0
-        (ap (λ (w : Wire). w.replies) h.1 ∙ field (λ w. w.replies) (nat_lt c 8) _ _) (ap (λ (w : Wire). w.orders) h.1 ∙ field (λ w. w.orders) (nat_lt c 8) _ _ ∙ both (nat_lt c 8) _) };
+        taken (wire s).replies (wire t).replies (wire s).orders (wire t).orders c got h.0 (ap (λ (w : Wire). w.replies) h.1) (ap (λ (w : Wire). w.orders) h.1) };
 
     fn send(&mut self, card: u8, number: u32) {
-        if card < 8 {
-            let gone = self.loses_next();
-            enter(&mut self.orders, card as usize, number, gone);
+        if card < 8 && !self.loses_next() {
+            self.orders.send(card, number);
         }
     }
 
     fn fetch(&mut self, card: u8) -> Option<u32> {
-        if card >= 8 {
-            return None;
-        }
-        leave(&mut self.orders, card as usize)
+        self.orders.take(card)
     }
 
     fn reply(&mut self, card: u8, number: u32) {
-        if card < 8 {
-            let gone = self.loses_next();
-            enter(&mut self.replies, card as usize, number, gone);
+        if card < 8 && !self.loses_next() {
+            self.replies.send(card, number);
         }
     }
 
     fn collect(&mut self, card: u8) -> Option<u32> {
-        if card >= 8 {
-            return None;
-        }
-        leave(&mut self.replies, card as usize)
+        self.replies.take(card)
     }
 }
 

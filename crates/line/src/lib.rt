@@ -9,9 +9,13 @@ mod link;
 mod pass;
 mod queue;
 mod queues;
+mod slot;
+mod way;
 
 pub use direct::Direct;
 pub use leaky::Leaky;
 pub use link::Line;
 pub use pass::passes;
 pub use queue::Queue;
+pub use slot::Slot;
+pub use way::Way;

@@ -7,8 +7,5 @@ pub fn passes<L: Line>(line: &mut L, card: u8, number: u32) -> bool
     ensures { Passed L.sends L.fetches card number line.old result line.new }
 {
     line.send(card, number);
-    match line.fetch(card) {
-        None => false,
-        Some(got) => got == number,
-    }
+    line.fetch(card) == Some(number)
 }

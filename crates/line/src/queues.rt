@@ -1,13 +1,14 @@
-ghost use Rattle.std.specs.Prelude.{◌≡◌};
-ghost use Rattle.line.specs.Leaky.{held, joins, front, later};
+ghost use Rattle.line.specs.Leaky.{held, joins};
 
 use crate::queue::Queue;
+use crate::slot::Slot;
 
-impl Queue {
-    // The number joins the queue, unless four wait there.
-    pub(crate) fn joined(self, n: u32) -> Queue
-        ensures { held result ≡ joins (held self) n }
-    {
+impl Slot for Queue {
+    ghost held = { held };
+
+    ghost joins = { joins };
+
+    fn joined(self, n: u32) -> Queue {
         match self {
             Queue::Empty => Queue::One(n),
             Queue::One(a) => Queue::Two(a, n),
@@ -17,9 +18,7 @@ impl Queue {
         }
     }
 
-    pub(crate) fn first(self) -> Option<u32>
-        ensures { result ≡ front (held self) }
-    {
+    fn first(self) -> Option<u32> {
         match self {
             Queue::Empty => None,
             Queue::One(a) => Some(a),
@@ -29,9 +28,7 @@ impl Queue {
         }
     }
 
-    pub(crate) fn rest(self) -> Queue
-        ensures { held result ≡ later (held self) }
-    {
+    fn rest(self) -> Queue {
         match self {
             Queue::Empty => Queue::Empty,
             Queue::One(_) => Queue::Empty,

@@ -1,7 +1,7 @@
 -- A buffer that is filled from its start on. Assumes nothing.
-use Rattle.std.proofs.Common.{◌≡◌, ℕ, ◌+◌, ◌-◌, ◌<◌, ◌≤◌, true, false, eqb, ltb, List, ◌++◌, length, take, drop, replicate, Ok, Err, sym, ap, ◌∙◌, arith, take_all}
-use borrow.Rule.Slice.PartMut.{put_mid}
-use Rattle.std.proofs.lemmas.List.{length-drop, length-replicate, length-take-le, length-append, take-take, take_at, drop_at}
+use Rattle.std.proofs.Common.{◌≡◌, ℕ, ◌+◌, ◌-◌, ◌<◌, ◌≤◌, true, false, eqb, ltb, List, ◌++◌, length, take, drop, replicate, Ok, Err, refl, sym, ap, ◌∙◌, arith, take_all}
+use borrow.Rule.Slice.PartMut.{put_mid, post_of}
+use Rattle.std.proofs.lemmas.List.{length-take, length-replicate, length-append, take-take, take_at, drop_at}
 use Rattle.std.proofs.lemmas.Slice.{take-put_mid}
 use Rattle.std.proofs.lemmas.Bool.{eq-eqb, le-ltb}
 use Rattle.refusal.specs.declared.kinds.Refusal.TheVariants.{BadCheck}
@@ -22,19 +22,32 @@ full o n f l = sym (take_all n o (omega arith)) ∙ f
 pub put_next : (a k n : ℕ) (o y : List ℕ) {p q : List ℕ} → take a o ≡ p → y ≡ q → n ≡ a + length y → a ≤ length o → take n (put_mid a k o y) ≡ p ++ q
 put_next a k n o y {p} {q} f e l h = take-put_mid a k o y n l h ∙ ap (λ t. t ++ y) f ∙ ap (λ t. p ++ t) e
 
--- number, count and body stand; zeros and the check follow
-pub seal : (b n a k : ℕ) (body o z o₂ o₃ q : List ℕ) (sum : ℕ) → take a o ≡ le16 b ++ (le16 n ++ body) → a ≡ 4 + length body → a ≤ 508 → length o ≡ 512 → z ≡ replicate (508 - a) 0
-    → o₂ ≡ put_mid a k o z → sum ≡ check_of (take 508 o₂) → q ≡ le32 sum → length q ≡ 4 → take (508 + length q) o₃ ≡ take 508 o₂ ++ q → length o₃ ≡ 512 → o₃ ≡ block_of b n body
-unfolding block_of
-seal b n a k body o z o₂ o₃ q sum e ea ha lo ez e₂ es eq lq e₃ l₃ =
-    let w : List ℕ = le16 b ++ (le16 n ++ (body ++ replicate (504 - length body) 0)) in
-    let m : 508 - a ≡ 504 - length body = omega arith in
-    let lz : length z ≡ 508 - a = ap length ez ∙ length-replicate (508 - a) 0 in
-    let t : take 508 o₂ ≡ w = ap (take 508) e₂ ∙ put_next a k 508 o z e (ez ∙ ap (λ i. replicate i 0) m) (omega arith) (omega arith) in
-    full o₃ 512 (fill 508 4 o₂ o₃ t e₃ lq (eq ∙ ap le32 (es ∙ ap check_of t))) l₃
+-- what stands at the front reaches that far
+reach : (n : ℕ) (o p : List ℕ) → take n o ≡ p → length p ≡ n → n ≤ length o
+reach n o p f l = let e : length (take n o) ≡ n = ap length f ∙ l in omega (arith, e, length-take n o)
 
-pub rest-length : (a : ℕ) (o : List ℕ) → length o ≡ 512 → a ≤ 508 → length (take (508 - a) (drop a o)) ≡ 508 - a
-rest-length a o l h = length-take-le (508 - a) (drop a o) (simp length-drop (omega arith))
+-- number, count, body, zeros and the check, put one after the other, are a block
+pub seal : (b n a : ℕ) (out body x y w z q : List ℕ) → a ≡ 4 + length body → a ≤ 508 → x ≡ le16 b → y ≡ le16 n → w ≡ body → z ≡ replicate (508 - a) 0
+    → (let o : List ℕ = put_mid a (508 - a) (put_mid 4 (a - 4) (put_mid 2 2 (x ++ post_of 0 2 out) y) w) z in
+    q ≡ le32 (check_of (take 508 o)) → length (put_mid 508 4 o q) ≡ 512 → put_mid 508 4 o q ≡ block_of b n body)
+unfolding block_of
+seal b n a out body x y w z q ea ha ex ey ew ez eq lo =
+    let s : List ℕ = replicate (504 - length body) 0 in
+    let o1 : List ℕ = x ++ post_of 0 2 out in
+    let o2 : List ℕ = put_mid 2 2 o1 y in
+    let o3 : List ℕ = put_mid 4 (a - 4) o2 w in
+    let o4 : List ℕ = put_mid a (508 - a) o3 z in
+    let lx : length x ≡ 2 = ap length ex in
+    let t1 : take 2 o1 ≡ le16 b = take_at x (post_of 0 2 out) 2 lx ∙ ex in
+    let t2 : take 4 o2 ≡ le16 b ++ le16 n = put_next 2 2 4 o1 y t1 ey (ap (λ l. 2 + length l) (sym ey)) (reach 2 o1 (le16 b) t1 refl) in
+    let t3 : take a o3 ≡ (le16 b ++ le16 n) ++ body = put_next 4 (a - 4) a o2 w t2 ew (ea ∙ ap (λ l. 4 + length l) (sym ew)) (reach 4 o2 (le16 b ++ le16 n) t2 refl) in
+    let m : 508 - a ≡ 504 - length body = omega arith in
+    let es : z ≡ s = ez ∙ ap (λ i. replicate i 0) m in
+    let ls : length z ≡ 508 - a = ap length ez ∙ length-replicate (508 - a) 0 in
+    let t4 : take 508 o4 ≡ ((le16 b ++ le16 n) ++ body) ++ s = put_next a (508 - a) 508 o3 z t3 es (omega arith) (reach a o3 ((le16 b ++ le16 n) ++ body) t3 (omega arith)) in
+    let eq' : q ≡ le32 (check_of (((le16 b ++ le16 n) ++ body) ++ s)) = eq ∙ ap (λ l. le32 (check_of l)) t4 in
+    let ll : length (((le16 b ++ le16 n) ++ body) ++ s) ≡ 508 = length-append ((le16 b ++ le16 n) ++ body) s ∙ omega (arith, length-replicate {A = ℕ} (504 - length body) 0) in
+    full (put_mid 508 4 o4 q) 512 (put_next 508 4 512 o4 q t4 eq' (ap (λ l. 508 + length l) (sym eq')) (reach 508 o4 _ t4 ll)) lo
 
 -- what a writing and an opening come to once their tests are decided
 pub written : (out o body : List ℕ) (b n : ℕ) → length out ≡ 512 → length body ≤ 504 → o ≡ block_of b n body → (Ok tt, o) ≡ writing out b n body

@@ -1,10 +1,11 @@
 -- Bytes that differ in one place have different checks: rotating and adding a byte lose nothing. Assumes nothing.
-use Rattle.std.proofs.Common.{◌≡◌, ℕ, zero, suc, ◌+◌, ◌*◌, ◌/◌, ◌%◌, ◌^◌, ◌<◌, List, [], ◌∷◌, length, get_or, fold, sym, ap, ◌∙◌, arith}
+use Rattle.std.proofs.Common.{◌≡◌, ℕ, zero, suc, false, eqb, ◌+◌, ◌*◌, ◌/◌, ◌%◌, ◌^◌, ◌<◌, List, [], ◌∷◌, length, get_or, fold, sym, ap, ◌∙◌, arith}
 use lib.Bits.{bit_or}
 use Rattle.std.proofs.lemmas.Nat.{or_shifted}
 use Rattle.std.proofs.lemmas.List.{ext_get_or}
+use Rattle.std.proofs.lemmas.Bool.{ne_eqb}
 use Rattle.octets.specs.Numbers.{Bytes}
-use Rattle.octets.specs.Check.{rotated, mixed, check_of, OneByteTells}
+use Rattle.octets.specs.Check.{rotated, mixed, check_of, DifferOnce, OneByteTells}
 
 -- rotating puts the low 27 bits above the high five
 rotated_is : (h : ℕ) → h < 2 ^ 32 → rotated h ≡ (h % 2 ^ 27) * 2 ^ 5 + h / 2 ^ 27
@@ -58,3 +59,7 @@ folded_small (x ∷ xs) h l = folded_small xs (mixed h x) (mixed_small h x)
 pub check_small : (xs : List ℕ) → check_of xs < 4294967296
 unfolding check_of
 check_small xs = folded_small xs 0 (omega arith)
+
+-- as a test
+pub tells : (xs ys : List ℕ) → Bytes xs → Bytes ys → DifferOnce xs ys → eqb (check_of xs) (check_of ys) ≡ false
+tells xs ys f g d = ne_eqb (check_of xs) (check_of ys) (one_byte_tells xs ys f g d)

@@ -1,5 +1,5 @@
 -- A block of 512 bytes: number, count, body, zeros, check. Assumes nothing.
-use Rattle.std.specs.Prelude.{◌≡◌, ℕ, ◌-◌, Bool, cond, List, ◌++◌, length, take, drop, replicate, Ok, Err, Result, ◌==◌, nat_lt}
+use Rattle.std.specs.Prelude.{◌≡◌, ℕ, ◌-◌, Bool, cond, ◌&&◌, List, ◌++◌, length, take, drop, replicate, Ok, Err, Result, ◌==◌, nat_lt}
 use Rattle.refusal.specs.declared.kinds.Refusal.{Refusal}
 use Rattle.refusal.specs.declared.kinds.Refusal.TheVariants.{BadLength, BadCheck, OutOfRange}
 use Rattle.octets.specs.Numbers.{le16, le32, un16, un32}
@@ -37,6 +37,10 @@ outcome_of (Err r) = Err r
 -- whether the last four bytes of a block are the check of those before
 abbrev pub check_right : List ℕ → Bool
 check_right bs = un32 (drop 508 bs) == check_of (take 508 bs)
+
+-- whether bytes are a block of 512 with its check right
+abbrev pub block_right : List ℕ → Bool
+block_right bs = length bs == 512 && check_right bs
 
 -- reading a block: refused where it is not 512 bytes long, or its check is wrong
 abbrev pub opening : List ℕ → Result Opened Refusal

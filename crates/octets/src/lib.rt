@@ -7,5 +7,5 @@ mod blocks;
 mod check;
 
 pub use block::Block;
-pub use blocks::{open_block, write_block};
+pub use blocks::{check_right, open_block, write_block};
 pub use check::{check_of, same_check};

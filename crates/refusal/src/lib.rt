@@ -15,21 +15,7 @@ impl Refusal {
     pub fn number(self) -> u8
         ensures { result ≡ number self }
     {
-        match self {
-            Refusal::NoCard => 1,
-            Refusal::NoPlace => 2,
-            Refusal::NoLink => 3,
-            Refusal::UpdateInHand => 4,
-            Refusal::NoUpdate => 5,
-            Refusal::Blank => 6,
-            Refusal::WrongPhase => 7,
-            Refusal::Exhausted => 8,
-            Refusal::NoCell => 9,
-            Refusal::BadLength => 11,
-            Refusal::BadCheck => 12,
-            Refusal::BadArchive => 13,
-            Refusal::OutOfRange => 14,
-        }
+        self as u8
     }
 
     /// Why, in words.
@@ -63,3 +49,5 @@ impl fmt::Display for Refusal {
         write!(f, "refused with {number}: {reason}")
     }
 }
+
+impl std::error::Error for Refusal {}

@@ -1,6 +1,0 @@
-use Rattle.std.proofs.Common.{◌≡◌, take}
-use Rattle.octets.specs.Check.{check_of}
-use Rattle.octets.proofs.check.check_of.Given as goal
-
-abbrev pub invariant-loop-byte : goal.invariant-loop-byte
-invariant-loop-byte l = l.check ≡ check_of (take l.byte-index l.bytes)
