@@ -38,17 +38,20 @@ pub fn check_right(block: &[u8]) -> bool
 pub fn open_block(block: &[u8]) -> Result<Block<'_>, Refusal>
     ensures { outcome_of result ≡ opening block.now }
 {
-    if block.len() != 512 {
+    let [n0, n1, c0, c1, rest @ ..] = block else {
+        return Err(Refusal::BadLength);
+    };
+    if rest.len() != 508 {
         return Err(Refusal::BadLength);
     }
     if !check_right(block) {
         return Err(Refusal::BadCheck);
     }
-    let number = u16::from_le_bytes([block[0], block[1]]);
-    let count = u16::from_le_bytes([block[2], block[3]]);
+    let number = u16::from_le_bytes([*n0, *n1]);
+    let count = u16::from_le_bytes([*c0, *c1]);
     Ok(Block {
         number,
         count,
-        body: &block[4..508],
+        body: &rest[0..504],
     })
 }
