@@ -9,10 +9,10 @@ use std::fmt;
 
 // A kind's code and a value's form, one after the other.
 fn coded<C: Contents>(value: &C) -> [u8; 18]
-    ensures { result ≡ le16 C.number ++ C.form value.now }
+    ensures { result ≡ le16 C.CODE ++ C.form value.now }
 {
     let mut bytes = [0u8; 18];
-    bytes[0..2].copy_from_slice(&C::tag().to_le_bytes());
+    bytes[0..2].copy_from_slice(&C::CODE.to_le_bytes());
     bytes[2..18].copy_from_slice(&value.form());
     bytes
 }
