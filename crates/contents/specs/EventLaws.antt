@@ -39,7 +39,7 @@ found_passes : (test : Kind → Bool) (ks : List Kind) (k : Kind) → find test 
 found_passes test [] k e = let z : ◌≡◌ {A = ℕ} 0 1 = cc in absurd (omega arith)
 found_passes test (j ∷ ks) k e =
     elim (cases_Bool (test j)) [
-      | inl t ↦ let i : j ≡ k = cc (ap (λ b. cond b (Some j) (find test ks)) t) in subst (λ x. test x ≡ true) i t
+      | inl t ↦ let i : j ≡ k = cc t in subst (λ x. test x ≡ true) i t
       | inr f ↦ found_passes test ks k (ap (λ b. cond b (Some j) (find test ks)) (sym f) ∙ e)
     ]
 

@@ -29,7 +29,7 @@ impl Effect {
 impl Contents for Effect {
     const CODE: u16 = 2;
 
-    ghost number = { effect_code };
+    ghost CODE = { effect_code };
 
     ghost form = { effect_form };
 
@@ -40,10 +40,6 @@ impl Contents for Effect {
     ghost back = { EffectLaws.back };
 
     ghost forth = { EffectLaws.forth };
-
-    fn tag() -> u16 {
-        Self::CODE
-    }
 
     fn form(&self) -> [u8; 16] {
         let [r0, r1] = self.relay.to_le_bytes();

@@ -36,7 +36,7 @@ impl Event {
 impl Contents for Event {
     const CODE: u16 = 1;
 
-    ghost number = { event_code };
+    ghost CODE = { event_code };
 
     ghost form = { event_form };
 
@@ -47,10 +47,6 @@ impl Contents for Event {
     ghost back = { EventLaws.back };
 
     ghost forth = { EventLaws.forth };
-
-    fn tag() -> u16 {
-        Self::CODE
-    }
 
     fn form(&self) -> [u8; 16] {
         let [m0, m1, m2, m3] = self.moment.to_le_bytes();

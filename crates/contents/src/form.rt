@@ -5,15 +5,19 @@ pub trait Contents: Sized + Copy {
     /// The number by which an archive tells of which kind its contents are.
     const CODE: u16;
 
-    ghost number: { ℕ };
+    // the same number, for contracts
+    ghost CODE: { ℕ };
 
     ghost form: { Self → List ℕ };
 
     ghost read: { List ℕ → Maybe Self };
 
-    /// The code again, where a contract can see it.
+    /// The code again, as a call gives it.
     fn tag() -> u16
-        ensures { result ≡ number };
+        ensures { result ≡ CODE }
+    {
+        Self::CODE
+    }
 
     /// The sixteen bytes of the value.
     fn form(&self) -> [u8; 16]

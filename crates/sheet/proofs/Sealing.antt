@@ -1,17 +1,19 @@
 -- Values in a block: what eighteen bytes say, and that each value is read back. Assumes nothing.
-use Rattle.std.proofs.Common.{◌≡◌, ℕ, zero, suc, ◌+◌, ◌*◌, ◌<◌, ◌≤◌, true, false, eqb, ltb, leb, List, [], ◌∷◌, ◌++◌, length, get_or, take, drop, Some, None, Option, sym, refl, ap, ◌∙◌, arith}
+use Rattle.std.proofs.Common.{◌≡◌, ℕ, zero, suc, ◌+◌, ◌*◌, ◌^◌, ◌<◌, ◌≤◌, true, false, eqb, ltb, leb, List, [], ◌∷◌, ◌++◌, length, get_or, take, drop, Some, None, Err, Option, sym, refl, ap, ◌∙◌, arith}
 use Rattle.std.specs.List.{flat_map}
 use Rattle.std.proofs.lemmas.List.{append_assoc, length-append, take_at, drop_at, drop-drop, take_more, flat_map_more}
 use Rattle.std.proofs.lemmas.Bool.{eq-eqb, ne_eqb, le-ltb}
 use Rattle.octets.specs.Numbers.{un16}
 use Rattle.octets.specs.Block.{writing}
-use Rattle.contents.specs.Events.{event_code, event_read}
-use Rattle.contents.specs.Effects.{effect_code, effect_read}
+use Rattle.contents.specs.Events.{event_code, event_of, event_read}
+use Rattle.contents.specs.Effects.{effect_code, effect_of, effect_read}
 use Rattle.contents.specs.EventLaws as events
 use Rattle.contents.specs.EffectLaws as effects
 use Rattle.contents.specs.declared.event.Event.{Event}
 use Rattle.contents.specs.declared.effect.Effect.{Effect}
-use Rattle.sheet.specs.Words.{digits_after, number_in}
+use Rattle.refusal.specs.declared.kinds.Refusal.TheVariants.{OutOfRange}
+use Rattle.sheet.specs.declared.fault.Fault.TheVariants.{Refused}
+use Rattle.sheet.specs.Words.{digits_after, number_in, in_range}
 use Rattle.sheet.specs.Values.{value_bytes, happened, does, value_in, sealing, ReadBack}
 use Rattle.sheet.specs.declared.value.Value.{Value}
 use Rattle.sheet.specs.declared.value.Value.TheVariants.{Happened, Does}
@@ -28,13 +30,6 @@ value_effect bs o e r =
     let s : eqb (un16 bs) event_code ≡ false = ne_eqb (un16 bs) event_code (λ q. omega arith) in
     let t : eqb (un16 bs) effect_code ≡ true = eq-eqb (un16 bs) effect_code e in
     rw (s, t) (ap does r)
-
-pub value_none : (bs : List ℕ) → (un16 bs ≡ event_code → ⊥) → (un16 bs ≡ effect_code → ⊥) → None ≡ value_in bs
-unfolding value_in
-value_none bs e f =
-    let s : eqb (un16 bs) event_code ≡ false = ne_eqb (un16 bs) event_code e in
-    let t : eqb (un16 bs) effect_code ≡ false = ne_eqb (un16 bs) effect_code f in
-    rw (s, t) refl
 
 -- the bytes of a value say it
 pub value_back : (v : Value) → value_in (value_bytes v) ≡ Some v
@@ -71,6 +66,13 @@ read_back vs few rest k v h =
 -- one value more in front of the rest
 pub one_more : (vs : List Value) (k : ℕ) (v : Value) → k < length vs → flat_map value_bytes (take k vs) ++ value_bytes (get_or vs k v) ≡ flat_map value_bytes (take (k + 1) vs)
 one_more vs k v h = flat_map_more value_bytes [] (take k vs) (get_or vs k v) ∙ ap (flat_map value_bytes) (sym (take_more vs k v h))
+
+-- numbers that do not fit make nothing
+pub event_out : (m d z k : ℕ) → (m < 2 ^ 32 → d < 2 ^ 16 → z < 2 ^ 16 → k < 2 ^ 8 → ⊥) → Err (Refused OutOfRange) ≡ in_range (event_of m d z k)
+event_out m d z k h = sym (ap in_range (events.event_none m d z k (λ j e p q r. let n = events.numbered_small k j e in h p (omega arith) (omega arith) n)))
+
+pub effect_out : (r d : ℕ) → (r < 2 ^ 16 → d < 2 ^ 16 → ⊥) → Err (Refused OutOfRange) ≡ in_range (effect_of r d)
+effect_out r d h = sym (ap in_range (effects.effect_none r d (λ p q. h (omega arith) (omega arith))))
 
 -- a word of no letters says no number
 pub number_none : (w : List ℕ) → length w ≡ 0 → None ≡ number_in w

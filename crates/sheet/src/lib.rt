@@ -2,7 +2,6 @@
 #![tactic(auto)]
 
 mod fault;
-mod faults;
 mod seal;
 mod value;
 mod values;

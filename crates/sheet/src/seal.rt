@@ -7,6 +7,7 @@ use octets::write_block;
 use refusal::Refusal;
 
 /// Seals up to eighteen values into a block of 512 bytes with this number.
+#[tactic(auto, using(crate::proofs::Sealing::seals, crate::proofs::Sealing::read_back))]
 pub fn seal_values(out: &mut [u8], number: u16, values: &[Value]) -> Result<(), Refusal>
     ensures is { (result, out.new) ≡ sealing out.old number values.now }
     ensures back { length values.now ≤ 18 → ReadBack values.now }
@@ -22,12 +23,12 @@ pub fn seal_values(out: &mut [u8], number: u16, values: &[Value]) -> Result<(), 
 
 // The values' bytes, one after the other, at the start of the buffer.
 fn fill(body: &mut [u8], values: &[Value])
-    requires { (18 * length values.now ≤ length body.old) × (length values.now ≤ 18) }
+    requires { 18 * length values.now ≤ length body.old }
     ensures { take (18 * length values.now) body.new ≡ flat_map value_bytes values.now }
 {
-    for k in 0..values.len() {
+    for (k, value) in values.iter().enumerate() {
         let at = 18 * k;
-        body[at..at + 18].copy_from_slice(&values[k].bytes());
+        body[at..at + 18].copy_from_slice(&value.bytes());
     }
 }
 
@@ -38,9 +39,6 @@ pub fn value_at(body: &[u8], k: usize) -> Option<Value>
     if k >= 18 {
         return None;
     }
-    let at = 18 * k;
-    if body.len() < at + 18 {
-        return None;
-    }
-    Value::of_bytes(&body[at..at + 18])
+    let bytes = body.get(18 * k..18 * k + 18)?;
+    Value::of_bytes(bytes)
 }
