@@ -1,5 +1,5 @@
 /// Up to four numbers, the first to come out first.
-// kept: four options in an array would need an invariant that no number stands behind a gap, and a search for the gap.
+// kept: lines are Copy, which ArrayVec is not, and an array of options needs an invariant and a search for its first gap.
 #[derive(Clone, Copy)]
 pub enum Queue {
     Empty,
