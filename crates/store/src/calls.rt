@@ -1,19 +1,19 @@
 ghost use Rattle.std.specs.Prelude.{◌≡◌, ℕ, ◌+◌, ◌-◌, ◌*◌, ◌/◌, ◌%◌, ◌^◌, ◌<◌, ◌≤◌, not, ◌&&◌, length, is_some, if◌then◌else◌, Some, None};
 ghost use Rattle.machine.specs.World.{at, link, named, serial_of, read_all, same_colour};
 ghost use Rattle.machine.specs.Cards.{drop_call, load_call, copy_call, new_call, read_call, look_call, note_call, store_call};
-ghost use Rattle.store.specs.Model.{model, Sound};
+ghost use Rattle.store.specs.World.{world};
 
 use crate::parts::{
     content_at, link_of, log, newborn, noted, place_of, pop, put, relink, snoop_on, with_place,
     with_update,
 };
-use crate::types::Core;
+use crate::whole::Store;
 use machine::types::{Cell, Record, Stage, Update};
 use refusal::Refusal;
 
-impl<C: Copy> Core<'_, C> {
+impl<C: Copy> Store<'_, C> {
     pub(crate) fn at(&self, x: u16) -> Cell
-        ensures { result ≡ at (model self.now) x }
+        ensures { result ≡ at (world self.now) x }
     {
         let i = x as usize;
         if i >= self.cells.len() {
@@ -23,7 +23,7 @@ impl<C: Copy> Core<'_, C> {
     }
 
     fn named(&self, v: Option<u16>) -> Option<u16>
-        ensures { result ≡ named (model self.now) v }
+        ensures { result ≡ named (world self.now) v }
     {
         let Some(x) = v else {
             return None;
@@ -35,7 +35,7 @@ impl<C: Copy> Core<'_, C> {
     }
 
     fn serial_of(&self, v: Option<u16>) -> u32
-        ensures { result ≡ serial_of (model self.now) v }
+        ensures { result ≡ serial_of (world self.now) v }
     {
         let Some(x) = v else {
             return 0;
@@ -48,7 +48,7 @@ impl<C: Copy> Core<'_, C> {
 
     fn link(&self, x: u16, i: u8) -> Option<u16>
         requires { i < 4 }
-        ensures { result ≡ link (model self.now) x i }
+        ensures { result ≡ link (world self.now) x i }
     {
         match self.at(x) {
             None => None,
@@ -56,10 +56,9 @@ impl<C: Copy> Core<'_, C> {
         }
     }
 
-    pub(crate) fn drop_place(&mut self, c: u8, p: u8) -> Result<u32, Refusal>
-        requires { Sound self.old }
-        ensures does { (result, model self.new) ≡ drop_call (model self.old) c p }
-        ensures sound { Sound self.new }
+    /// Place p becomes blank. Answers 0.
+    pub fn drop_place(&mut self, c: u8, p: u8) -> Result<u32, Refusal>
+        ensures { (result, world self.new) ≡ drop_call (world self.old) c p }
     {
         if c as usize >= self.count {
             return Err(Refusal::NoCard);
@@ -75,10 +74,9 @@ impl<C: Copy> Core<'_, C> {
         Ok(0)
     }
 
-    pub(crate) fn load(&mut self, c: u8, p: u8, i: u8, q: u8) -> Result<u32, Refusal>
-        requires { Sound self.old }
-        ensures does { (result, model self.new) ≡ load_call (model self.old) c p i q }
-        ensures sound { Sound self.new }
+    /// Link i of the record in place p goes into place q. Answers the serial then in q, or 0.
+    pub fn load(&mut self, c: u8, p: u8, i: u8, q: u8) -> Result<u32, Refusal>
+        ensures { (result, world self.new) ≡ load_call (world self.old) c p i q }
     {
         if c as usize >= self.count {
             return Err(Refusal::NoCard);
@@ -105,10 +103,9 @@ impl<C: Copy> Core<'_, C> {
         Ok(serial)
     }
 
-    pub(crate) fn new(&mut self, c: u8, p: u8, x: C) -> Result<u32, Refusal>
-        requires { Sound self.old }
-        ensures does { (result, model self.new) ≡ new_call (model self.old) c p x }
-        ensures sound { Sound self.new }
+    /// A new record with contents x in place p of card c. Answers its serial.
+    pub fn new(&mut self, c: u8, p: u8, x: C) -> Result<u32, Refusal>
+        ensures { (result, world self.new) ≡ new_call (world self.old) c p x }
     {
         if c as usize >= self.count {
             return Err(Refusal::NoCard);
@@ -127,11 +124,7 @@ impl<C: Copy> Core<'_, C> {
         let Some(k) = pop(&mut self.free) else {
             return Err(Refusal::NoCell);
         };
-        put(
-            self.cells,
-            k as usize,
-            Some(newborn(serial, card.birth)),
-        );
+        put(self.cells, k as usize, Some(newborn(serial, card.birth)));
         put(self.contents, k as usize, x);
         self.cards[c as usize] = with_place(card, p, Some(k));
         self.state.next = serial + 1;
@@ -139,7 +132,7 @@ impl<C: Copy> Core<'_, C> {
     }
 
     fn read_links(&self, r: Record) -> [Option<u16>; 4]
-        ensures { result ≡ read_all (model self.now) r.links }
+        ensures { result ≡ read_all (world self.now) r.links }
     {
         let [a, b, c, d] = r.links;
         [self.named(a), self.named(b), self.named(c), self.named(d)]
@@ -147,7 +140,7 @@ impl<C: Copy> Core<'_, C> {
 
     // what a look keeps of the links of r
     fn draft(&self, logging: bool, r: Record) -> Option<[Option<u16>; 4]>
-        ensures { result ≡ (if logging && not (same_colour r.colour self.now.state.marked) && not (is_some r.log) then Some (read_all (model self.now) r.links) else None) }
+        ensures { result ≡ (if logging && not (same_colour r.colour self.now.state.marked) && not (is_some r.log) then Some (read_all (world self.now) r.links) else None) }
     {
         if logging && r.colour != self.state.marked && r.log.is_none() {
             Some(self.read_links(r))
@@ -156,10 +149,9 @@ impl<C: Copy> Core<'_, C> {
         }
     }
 
-    pub(crate) fn look(&mut self, c: u8, p: u8, i: u8, q: u8) -> Result<u32, Refusal>
-        requires { Sound self.old }
-        ensures does { (result, model self.new) ≡ look_call (model self.old) c p i q }
-        ensures sound { Sound self.new }
+    /// Takes an update in hand: link i of the record in place p is to become what place q holds. Answers 0.
+    pub fn look(&mut self, c: u8, p: u8, i: u8, q: u8) -> Result<u32, Refusal>
+        ensures { (result, world self.new) ≡ look_call (world self.old) c p i q }
     {
         if c as usize >= self.count {
             return Err(Refusal::NoCard);
@@ -195,10 +187,9 @@ impl<C: Copy> Core<'_, C> {
         Ok(0)
     }
 
-    pub(crate) fn note(&mut self, c: u8) -> Result<u32, Refusal>
-        requires { Sound self.old }
-        ensures does { (result, model self.new) ≡ note_call (model self.old) c }
-        ensures sound { Sound self.new }
+    /// Makes the record of the update in hand logged, where its draft is wanted. Answers 0.
+    pub fn note(&mut self, c: u8) -> Result<u32, Refusal>
+        ensures { (result, world self.new) ≡ note_call (world self.old) c }
     {
         if c as usize >= self.count {
             return Err(Refusal::NoCard);
@@ -215,10 +206,9 @@ impl<C: Copy> Core<'_, C> {
         Ok(0)
     }
 
-    pub(crate) fn store(&mut self, c: u8) -> Result<u32, Refusal>
-        requires { Sound self.old }
-        ensures does { (result, model self.new) ≡ store_call (model self.old) c }
-        ensures sound { Sound self.new }
+    /// Sets the link of the update in hand and ends the update. Answers the target's serial, or 0.
+    pub fn store(&mut self, c: u8) -> Result<u32, Refusal>
+        ensures { (result, world self.new) ≡ store_call (world self.old) c }
     {
         if c as usize >= self.count {
             return Err(Refusal::NoCard);
@@ -238,10 +228,9 @@ impl<C: Copy> Core<'_, C> {
         Ok(serial)
     }
 
-    pub(crate) fn copy(&mut self, c: u8, p: u8, q: u8) -> Result<u32, Refusal>
-        requires { Sound self.old }
-        ensures does { (result, model self.new) ≡ copy_call (model self.old) c p q }
-        ensures sound { Sound self.new }
+    /// Place p goes into place q. Answers the serial then in q, or 0.
+    pub fn copy(&mut self, c: u8, p: u8, q: u8) -> Result<u32, Refusal>
+        ensures { (result, world self.new) ≡ copy_call (world self.old) c p q }
     {
         if c as usize >= self.count {
             return Err(Refusal::NoCard);
@@ -262,9 +251,9 @@ impl<C: Copy> Core<'_, C> {
         Ok(serial)
     }
 
-    pub(crate) fn read(&self, c: u8, p: u8) -> Result<(u32, C), Refusal>
-        requires { Sound self.now }
-        ensures { result ≡ read_call (model self.now) c p }
+    /// The serial and the contents of the record in place p.
+    pub fn read(&self, c: u8, p: u8) -> Result<(u32, C), Refusal>
+        ensures { result ≡ read_call (world self.now) c p }
     {
         if c as usize >= self.count {
             return Err(Refusal::NoCard);

@@ -1,10 +1,8 @@
 //! The running store: up to 4,096 records in lent tables, up to eight cards, the eight card calls and the seven round calls.
-//! `Store` is what users hold; below it `Core` has the same calls under an invariant that its callers show.
 #![tactic(auto)]
 
 mod calls;
 mod draft;
-mod face;
 mod making;
 mod marks;
 mod over;

@@ -1,7 +1,7 @@
 //! A store as it is made.
 ghost use Rattle.std.specs.Prelude.{◌≡◌, ℕ, ◌+◌, ◌-◌, ◌*◌, ◌/◌, ◌%◌, ◌^◌, ◌<◌, ◌≤◌, [], length, replicate, vec_len, vec_capacity};
 ghost use Rattle.machine.specs.World.{fresh, count_up, fresh_card};
-ghost use Rattle.store.specs.Model.{model, Sound, stack};
+ghost use Rattle.store.specs.Model.{stack};
 ghost use Rattle.store.specs.Ready.{Ready, bad_tables, bad_numbers, unfit};
 ghost use Rattle.store.specs.Making.{Checked, asked, made_of};
 ghost use Rattle.store.specs.World.{world};
@@ -9,7 +9,7 @@ ghost use Rattle.store.specs.World.{world};
 use crate::draft::Draft;
 use crate::parts::{newborn, push};
 use crate::plan::{NotMade, Plan, Why};
-use crate::types::{Core, RoundState};
+use crate::types::RoundState;
 use crate::whole::Store;
 use machine::types::{Card, Cell, Colour, Phase};
 use refusal::Refusal;
@@ -69,10 +69,9 @@ fn bad_numbers(cards: u8, first: u32, rounds: u32) -> bool
 }
 
 // Writes the store's beginning into the tables.
-fn build<C: Copy>(draft: Draft<'_, C>, index: C) -> Core<'_, C>
+fn build<C: Copy>(draft: Draft<'_, C>, index: C) -> Store<'_, C>
     requires { Ready draft }
-    ensures made { model result ≡ fresh (length draft.entry.cells.now) draft.entry.contents.now draft.entry.cards draft.entry.first draft.entry.rounds index }
-    ensures sound { Sound result }
+    ensures { world result ≡ fresh (length draft.entry.cells.now) draft.entry.contents.now draft.entry.cards draft.entry.first draft.entry.rounds index }
 {
     let Draft {
         cells,
@@ -97,7 +96,7 @@ fn build<C: Copy>(draft: Draft<'_, C>, index: C) -> Core<'_, C>
         answered: [false; 8],
         sweep: 0,
     };
-    Core {
+    Store {
         cells,
         contents,
         cards: [card; 8],
@@ -160,8 +159,6 @@ impl<'a, C: Copy> Plan<'a, C> {
         ensures { world result ≡ made_of (asked self.entry) index }
     {
         let Plan { draft } = self;
-        Store {
-            core: build(draft, index),
-        }
+        build(draft, index)
     }
 }

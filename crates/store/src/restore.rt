@@ -4,7 +4,7 @@ ghost use Rattle.store.specs.Restored.{Fitting, Counted, Listed, restored};
 ghost use Rattle.store.specs.World.{world};
 
 use crate::stock::Stock;
-use crate::types::{Core, RoundState};
+use crate::types::RoundState;
 use crate::whole::Store;
 use machine::types::{Colour, Phase};
 
@@ -43,15 +43,13 @@ impl<'a, C: Copy> Restore<'a, C> {
             sweep: 0,
         };
         Store {
-            core: Core {
-                cells,
-                contents,
-                cards,
-                count,
-                free,
-                waiting,
-                state,
-            },
+            cells,
+            contents,
+            cards,
+            count,
+            free,
+            waiting,
+            state,
         }
     }
 }

@@ -1,4 +1,4 @@
-use machine::types::{Card, Cell, Colour, Phase};
+use machine::types::{Colour, Phase};
 
 /// The plain numbers of a store.
 #[derive(Clone, Copy)]
@@ -10,15 +10,4 @@ pub struct RoundState {
     pub order: u32,
     pub answered: [bool; 8],
     pub sweep: u16,
-}
-
-#[derive(Drop)]
-pub(crate) struct Core<'a, C> {
-    pub cells: &'a mut [Cell],
-    pub contents: &'a mut [C],
-    pub cards: [Card; 8],
-    pub count: usize,
-    pub free: Vec<u16>,
-    pub waiting: Vec<u16>,
-    pub state: RoundState,
 }

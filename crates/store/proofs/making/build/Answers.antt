@@ -6,6 +6,15 @@ use Rattle.store.proofs.Made.{made_spares, take_same}
 use Rattle.store.proofs.Stacks.{stack_none}
 use Rattle.store.proofs.making.build.Goals as goal
 
+pub invariant_of-result : goal.invariant_of-result
+invariant_of-result g c =
+    let d = c.args.draft in
+    let n = length d.cells.now in
+    let p : n ≤ spares (set (replicate n None) 0 (Some c.newborn.result)) + 1 = made_spares n (Some c.newborn.result) in
+    let q : spares (set c.clear_cells.new.cells 0 (Some c.newborn.result)) ≡ spares (set (replicate n None) 0 (Some c.newborn.result)) = ap (λ h. spares (set h 0 (Some c.newborn.result))) c.clear_cells.ensures in
+    let l : length c.clear_cells.new.cells ≡ n = ap length c.clear_cells.ensures ∙ length-replicate n None in
+    record { tables = search rules; lists = search rules; numbers = search rules }
+
 pub returns : goal.returns
 unfolding born_at
 returns g c =
@@ -15,7 +24,4 @@ returns g c =
     let t : stack d.waiting ≡ [] = stack_none d.waiting c.requires.4 in
     let k : take d.cards (replicate 8 c.fresh_card-card.result) ≡ replicate d.cards c.fresh_card-card.result = take_same d.cards 8 c.fresh_card-card.result few in
     let a : take d.cards (replicate 8 false) ≡ replicate d.cards false = take_same d.cards 8 false few in
-    let p : n ≤ spares (set (replicate n None) 0 (Some c.newborn.result)) + 1 = made_spares n (Some c.newborn.result) in
-    let q : spares (set c.clear_cells.new.cells 0 (Some c.newborn.result)) ≡ spares (set (replicate n None) 0 (Some c.newborn.result)) = ap (λ h. spares (set h 0 (Some c.newborn.result))) c.clear_cells.ensures in
-    let l : length c.clear_cells.new.cells ≡ n = ap length c.clear_cells.ensures ∙ length-replicate n None in
-    record { made = search (rules, t, k, a); sound = search rules }
+    search (rules, t, k, a)

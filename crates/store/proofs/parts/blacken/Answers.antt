@@ -1,4 +1,4 @@
-use Rattle.std.proofs.Common.{arith, rules, Some}
+use Rattle.std.proofs.Common.{arith, rules}
 use Rattle.store.proofs.Cells.{alter_used, kept_free, kept_spares, alter_past, spares_low}
 use Rattle.store.proofs.parts.blacken.Goals as goal
 

@@ -1,4 +1,4 @@
-use Rattle.std.proofs.Common.{◌≡◌, refl, ap, rules, Some}
+use Rattle.std.proofs.Common.{◌≡◌, refl, ap, rules}
 use Rattle.store.proofs.Cells.{alter_used, kept_free, kept_spares, alter_past, spares_same}
 use Rattle.store.proofs.parts.log.Goals as goal
 

@@ -1,4 +1,4 @@
-use Rattle.std.proofs.Common.{refl, rules, Some}
+use Rattle.std.proofs.Common.{refl, rules}
 use Rattle.store.proofs.Cells.{alter_used, kept_free, kept_spares, alter_past, spares_same}
 use Rattle.store.proofs.parts.snoop.Goals as goal
 
