@@ -53,18 +53,17 @@ sweeping Settle = 0
 
 -- What a store asks of its fields, in three parts, short enough for a ghost field each.
 -- tables of one length from 1 to 4,096, and at most eight cards
-abbrev pub Tables : {C : Type 0} → List Cell → List C → ℕ → Type 0
-Tables cells contents count =
+abbrev pub Tables : {C : Type 0} → List Cell → List C → List Card → Type 0
+Tables cells contents cards =
     (length contents ≡ length cells)
     × (1 ≤ length cells)
     × (length cells ≤ 4096)
-    × (count ≤ 8)
+    × (length cards ≤ 8)
 
--- eight cards and eight answers in memory; each list has room for every cell
-abbrev pub Lists : {Z : Type 0} → List Cell → List Card → List Bool → Vec ℕ Z → Vec ℕ Z → Type 0
-Lists cells cards answered free waiting =
-    (length cards ≡ 8)
-    × (length answered ≡ 8)
+-- eight answers in memory; each list has room for every cell
+abbrev pub Lists : {Z : Type 0} → List Cell → List Bool → Vec ℕ Z → Vec ℕ Z → Type 0
+Lists cells answered free waiting =
+    (length answered ≡ 8)
     × (length cells ≤ vec_capacity free)
     × (length cells ≤ vec_capacity waiting)
 

@@ -3,6 +3,7 @@ use Rattle.std.specs.Prelude.{ℕ, Bool, List, take}
 use Rattle.machine.specs.declared.types.Colour.{Colour}
 use Rattle.machine.specs.declared.types.Phase.{Phase}
 use Rattle.machine.specs.World.{World}
+use Rattle.arrayvec.specs.ArrayVec.{array_vec_len}
 use Rattle.store.specs.Model.{stack}
 use Rattle.store.specs.declared.types.RoundState.{RoundState}
 use Rattle.store.specs.declared.whole.Store.{Store}
@@ -11,7 +12,7 @@ abbrev pub world : {C : Type 0} → Store C → World C
 world s = record {
   cells = s.cells.now;
   contents = s.contents.now;
-  cards = take s.count s.cards;
+  cards = s.cards.items;
   marked = s.state.marked;
   free = stack s.free;
   waiting = stack s.waiting;
@@ -19,7 +20,7 @@ world s = record {
   rounds = s.state.rounds;
   phase = s.state.phase;
   order = s.state.order;
-  answered = take s.count s.state.answered;
+  answered = take (array_vec_len s.cards) s.state.answered;
   sweep = s.state.sweep;
 }
 

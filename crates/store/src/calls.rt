@@ -1,76 +1,53 @@
+//! The eight calls of a card. Each is the definition of its name in the machine's specs, refusals in the table's order.
 ghost use Rattle.std.specs.Prelude.{◌≡◌, ℕ, ◌+◌, ◌-◌, ◌*◌, ◌/◌, ◌%◌, ◌^◌, ◌<◌, ◌≤◌, not, ◌&&◌, length, is_some, if◌then◌else◌, Some, None};
-ghost use Rattle.machine.specs.World.{at, link, named, serial_of, read_all, same_colour};
+ghost use Rattle.std.specs.Option.{option_and_then};
+ghost use Rattle.machine.specs.World.{at, named, serial_of, read_all, same_colour};
 ghost use Rattle.machine.specs.Cards.{drop_call, load_call, copy_call, new_call, read_call, look_call, note_call, store_call};
 ghost use Rattle.store.specs.World.{world};
 
 use crate::parts::{
-    content_at, link_of, log, newborn, noted, place_of, pop, put, relink, snoop_on, with_place,
-    with_update,
+    idle, log, newborn, noted, pop, put, relink, set_place, set_update, snoop_on, within,
 };
 use crate::whole::Store;
 use machine::types::{Cell, Record, Stage, Update};
 use refusal::Refusal;
 
 impl<C: Copy> Store<'_, C> {
+    // Cell x; past the table there is nothing but free cells.
     pub(crate) fn at(&self, x: u16) -> Cell
         ensures { result ≡ at (world self.now) x }
     {
-        let i = x as usize;
-        if i >= self.cells.len() {
-            return None;
-        }
-        self.cells[i]
+        self.cells.get(x as usize).copied().flatten()
     }
 
+    // The record that a name names.
+    fn record(&self, v: Option<u16>) -> Option<Record>
+        ensures { result ≡ option_and_then (at (world self.now)) v }
+    {
+        self.at(v?)
+    }
+
+    // A name as it is read.
     fn named(&self, v: Option<u16>) -> Option<u16>
         ensures { result ≡ named (world self.now) v }
     {
-        let Some(x) = v else {
-            return None;
-        };
-        match self.at(x) {
-            None => None,
-            Some(_) => v,
-        }
+        self.record(v).and(v)
     }
 
     fn serial_of(&self, v: Option<u16>) -> u32
         ensures { result ≡ serial_of (world self.now) v }
     {
-        let Some(x) = v else {
-            return 0;
-        };
-        match self.at(x) {
-            None => 0,
-            Some(r) => r.serial,
-        }
-    }
-
-    fn link(&self, x: u16, i: u8) -> Option<u16>
-        requires { i < 4 }
-        ensures { result ≡ link (world self.now) x i }
-    {
-        match self.at(x) {
-            None => None,
-            Some(r) => link_of(r, i),
-        }
+        self.record(v).map_or(0, |r| r.serial)
     }
 
     /// Place p becomes blank. Answers 0.
     pub fn drop_place(&mut self, c: u8, p: u8) -> Result<u32, Refusal>
         ensures { (result, world self.new) ≡ drop_call (world self.old) c p }
     {
-        if c as usize >= self.count {
-            return Err(Refusal::NoCard);
-        }
-        if p > 7 {
-            return Err(Refusal::NoPlace);
-        }
-        let card = self.cards[c as usize];
-        if let Some(_) = card.update {
-            return Err(Refusal::UpdateInHand);
-        }
-        self.cards[c as usize] = with_place(card, p, None);
+        within(c, self.cards.len(), Refusal::NoCard)?;
+        within(p, 8, Refusal::NoPlace)?;
+        idle(&self.cards[c as usize])?;
+        set_place(&mut self.cards, c, p, None);
         Ok(0)
     }
 
@@ -78,28 +55,17 @@ impl<C: Copy> Store<'_, C> {
     pub fn load(&mut self, c: u8, p: u8, i: u8, q: u8) -> Result<u32, Refusal>
         ensures { (result, world self.new) ≡ load_call (world self.old) c p i q }
     {
-        if c as usize >= self.count {
-            return Err(Refusal::NoCard);
-        }
-        if p > 7 {
-            return Err(Refusal::NoPlace);
-        }
-        if q > 7 {
-            return Err(Refusal::NoPlace);
-        }
-        if i > 3 {
-            return Err(Refusal::NoLink);
-        }
-        let card = self.cards[c as usize];
-        if let Some(_) = card.update {
-            return Err(Refusal::UpdateInHand);
-        }
-        let Some(y) = self.named(place_of(card, p)) else {
-            return Err(Refusal::Blank);
-        };
-        let v = self.named(self.link(y, i));
+        within(c, self.cards.len(), Refusal::NoCard)?;
+        within(p, 8, Refusal::NoPlace)?;
+        within(q, 8, Refusal::NoPlace)?;
+        within(i, 4, Refusal::NoLink)?;
+        idle(&self.cards[c as usize])?;
+        let r = self
+            .record(self.cards[c as usize].places[p as usize])
+            .ok_or(Refusal::Blank)?;
+        let v = self.named(r.links[i as usize]);
         let serial = self.serial_of(v);
-        self.cards[c as usize] = with_place(card, q, v);
+        set_place(&mut self.cards, c, q, v);
         Ok(serial)
     }
 
@@ -107,26 +73,18 @@ impl<C: Copy> Store<'_, C> {
     pub fn new(&mut self, c: u8, p: u8, x: C) -> Result<u32, Refusal>
         ensures { (result, world self.new) ≡ new_call (world self.old) c p x }
     {
-        if c as usize >= self.count {
-            return Err(Refusal::NoCard);
-        }
-        if p > 7 {
-            return Err(Refusal::NoPlace);
-        }
-        let card = self.cards[c as usize];
-        if let Some(_) = card.update {
-            return Err(Refusal::UpdateInHand);
-        }
+        within(c, self.cards.len(), Refusal::NoCard)?;
+        within(p, 8, Refusal::NoPlace)?;
+        idle(&self.cards[c as usize])?;
         let serial = self.state.next;
         if serial == u32::MAX {
             return Err(Refusal::Exhausted);
         }
-        let Some(k) = pop(&mut self.free) else {
-            return Err(Refusal::NoCell);
-        };
-        put(self.cells, k as usize, Some(newborn(serial, card.birth)));
+        let k = pop(&mut self.free).ok_or(Refusal::NoCell)?;
+        let record = newborn(serial, self.cards[c as usize].birth);
+        put(self.cells, k as usize, Some(record));
         put(self.contents, k as usize, x);
-        self.cards[c as usize] = with_place(card, p, Some(k));
+        set_place(&mut self.cards, c, p, Some(k));
         self.state.next = serial + 1;
         Ok(serial)
     }
@@ -134,8 +92,11 @@ impl<C: Copy> Store<'_, C> {
     fn read_links(&self, r: Record) -> [Option<u16>; 4]
         ensures { result ≡ read_all (world self.now) r.links }
     {
-        let [a, b, c, d] = r.links;
-        [self.named(a), self.named(b), self.named(c), self.named(d)]
+        r.links.map(
+            |name| -> Option<u16>
+                ensures { result ≡ named (world self.entry.now) name }
+            { self.named(name) },
+        )
     }
 
     // what a look keeps of the links of r
@@ -153,37 +114,21 @@ impl<C: Copy> Store<'_, C> {
     pub fn look(&mut self, c: u8, p: u8, i: u8, q: u8) -> Result<u32, Refusal>
         ensures { (result, world self.new) ≡ look_call (world self.old) c p i q }
     {
-        if c as usize >= self.count {
-            return Err(Refusal::NoCard);
-        }
-        if p > 7 {
-            return Err(Refusal::NoPlace);
-        }
-        if q > 7 {
-            return Err(Refusal::NoPlace);
-        }
-        if i > 3 {
-            return Err(Refusal::NoLink);
-        }
+        within(c, self.cards.len(), Refusal::NoCard)?;
+        within(p, 8, Refusal::NoPlace)?;
+        within(q, 8, Refusal::NoPlace)?;
+        within(i, 4, Refusal::NoLink)?;
         let card = self.cards[c as usize];
-        if let Some(_) = card.update {
-            return Err(Refusal::UpdateInHand);
-        }
-        let Some(y) = place_of(card, p) else {
-            return Err(Refusal::Blank);
-        };
-        let Some(r) = self.at(y) else {
-            return Err(Refusal::Blank);
-        };
-        let target = self.named(place_of(card, q));
-        let draft = self.draft(card.logging, r);
+        idle(&card)?;
+        let y = card.places[p as usize].ok_or(Refusal::Blank)?;
+        let r = self.at(y).ok_or(Refusal::Blank)?;
         let update = Update {
             cell: y,
             link: i,
-            target,
-            stage: Stage::Looked(draft),
+            target: self.named(card.places[q as usize]),
+            stage: Stage::Looked(self.draft(card.logging, r)),
         };
-        self.cards[c as usize] = with_update(card, Some(update));
+        set_update(&mut self.cards, c, Some(update));
         Ok(0)
     }
 
@@ -191,18 +136,13 @@ impl<C: Copy> Store<'_, C> {
     pub fn note(&mut self, c: u8) -> Result<u32, Refusal>
         ensures { (result, world self.new) ≡ note_call (world self.old) c }
     {
-        if c as usize >= self.count {
-            return Err(Refusal::NoCard);
-        }
-        let card = self.cards[c as usize];
-        let Some(u) = card.update else {
-            return Err(Refusal::NoUpdate);
-        };
+        within(c, self.cards.len(), Refusal::NoCard)?;
+        let u = self.cards[c as usize].update.ok_or(Refusal::NoUpdate)?;
         let Stage::Looked(draft) = u.stage else {
             return Err(Refusal::NoUpdate);
         };
         log(self.cells, u.cell, draft);
-        self.cards[c as usize] = with_update(card, Some(noted(u)));
+        set_update(&mut self.cards, c, Some(noted(u)));
         Ok(0)
     }
 
@@ -210,13 +150,9 @@ impl<C: Copy> Store<'_, C> {
     pub fn store(&mut self, c: u8) -> Result<u32, Refusal>
         ensures { (result, world self.new) ≡ store_call (world self.old) c }
     {
-        if c as usize >= self.count {
-            return Err(Refusal::NoCard);
-        }
+        within(c, self.cards.len(), Refusal::NoCard)?;
         let card = self.cards[c as usize];
-        let Some(u) = card.update else {
-            return Err(Refusal::NoUpdate);
-        };
+        let u = card.update.ok_or(Refusal::NoUpdate)?;
         let Stage::Noted = u.stage else {
             return Err(Refusal::NoUpdate);
         };
@@ -224,7 +160,7 @@ impl<C: Copy> Store<'_, C> {
         let serial = self.serial_of(t);
         relink(self.cells, u.cell, u.link, t);
         snoop_on(self.cells, card.snoop, t);
-        self.cards[c as usize] = with_update(card, None);
+        set_update(&mut self.cards, c, None);
         Ok(serial)
     }
 
@@ -232,22 +168,13 @@ impl<C: Copy> Store<'_, C> {
     pub fn copy(&mut self, c: u8, p: u8, q: u8) -> Result<u32, Refusal>
         ensures { (result, world self.new) ≡ copy_call (world self.old) c p q }
     {
-        if c as usize >= self.count {
-            return Err(Refusal::NoCard);
-        }
-        if p > 7 {
-            return Err(Refusal::NoPlace);
-        }
-        if q > 7 {
-            return Err(Refusal::NoPlace);
-        }
-        let card = self.cards[c as usize];
-        if let Some(_) = card.update {
-            return Err(Refusal::UpdateInHand);
-        }
-        let v = self.named(place_of(card, p));
+        within(c, self.cards.len(), Refusal::NoCard)?;
+        within(p, 8, Refusal::NoPlace)?;
+        within(q, 8, Refusal::NoPlace)?;
+        idle(&self.cards[c as usize])?;
+        let v = self.named(self.cards[c as usize].places[p as usize]);
         let serial = self.serial_of(v);
-        self.cards[c as usize] = with_place(card, q, v);
+        set_place(&mut self.cards, c, q, v);
         Ok(serial)
     }
 
@@ -255,20 +182,11 @@ impl<C: Copy> Store<'_, C> {
     pub fn read(&self, c: u8, p: u8) -> Result<(u32, C), Refusal>
         ensures { result ≡ read_call (world self.now) c p }
     {
-        if c as usize >= self.count {
-            return Err(Refusal::NoCard);
-        }
-        if p > 7 {
-            return Err(Refusal::NoPlace);
-        }
-        let card = self.cards[c as usize];
-        let Some(y) = self.named(place_of(card, p)) else {
-            return Err(Refusal::Blank);
-        };
-        let serial = self.serial_of(Some(y));
-        match content_at(self.contents, y as usize) {
-            Some(x) => Ok((serial, x)),
-            None => Err(Refusal::Blank),
-        }
+        within(c, self.cards.len(), Refusal::NoCard)?;
+        within(p, 8, Refusal::NoPlace)?;
+        let y = self.cards[c as usize].places[p as usize].ok_or(Refusal::Blank)?;
+        let r = self.at(y).ok_or(Refusal::Blank)?;
+        let contents = self.contents.get(y as usize).copied();
+        Ok((r.serial, contents.ok_or(Refusal::Blank)?))
     }
 }

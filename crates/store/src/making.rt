@@ -11,6 +11,7 @@ use crate::parts::{newborn, push};
 use crate::plan::{NotMade, Plan, Why};
 use crate::types::RoundState;
 use crate::whole::Store;
+use arrayvec::ArrayVec;
 use machine::types::{Card, Cell, Colour, Phase};
 use refusal::Refusal;
 use std::alloc::Global;
@@ -96,11 +97,12 @@ fn build<C: Copy>(draft: Draft<'_, C>, index: C) -> Store<'_, C>
         answered: [false; 8],
         sweep: 0,
     };
+    let mut all = ArrayVec::from([card; 8]);
+    all.truncate(cards as usize);
     Store {
         cells,
         contents,
-        cards: [card; 8],
-        count: cards as usize,
+        cards: all,
         free,
         waiting,
         state,

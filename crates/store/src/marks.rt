@@ -30,8 +30,8 @@ impl<C: Copy> Store<'_, C> {
     pub(crate) fn put_all(&mut self, vs: &[Option<u16>])
         ensures { world self.new ≡ put_all (world self.old) vs.now }
     {
-        for i in 0..vs.len() {
-            self.put_waiting(vs[i]);
+        for v in vs {
+            self.put_waiting(*v);
         }
     }
 

@@ -5,7 +5,7 @@ ghost use Rattle.machine.specs.Waiting.{put_all, snooped_names};
 ghost use Rattle.store.specs.World.{world};
 ghost use Rattle.store.specs.Over.{KnocksBy, AttendsBy, HearsBy};
 
-use crate::parts::{heed, ordering, snooped_name, unsnoop_all};
+use crate::parts::{heed_order, idle, ordering, snooped_name, unsnoop_all, within};
 use crate::whole::Store;
 use line::Line;
 use machine::types::Phase;
@@ -13,11 +13,11 @@ use refusal::Refusal;
 
 impl<C: Copy> Store<'_, C> {
     fn obey(&mut self, c: u8, n: u32)
-        requires { c < self.old.count }
+        requires { c < length (world self.old).cards }
         ensures { world self.new ≡ obey (world self.old) c n }
     {
         let card = self.cards[c as usize];
-        self.cards[c as usize] = heed(self.state.marked, n, card);
+        heed_order(&mut self.cards, c, self.state.marked, n);
         if n % 4 == 3 {
             self.put_all(&card.places);
         }
@@ -27,13 +27,9 @@ impl<C: Copy> Store<'_, C> {
     pub fn attend<L: Line>(&mut self, c: u8, line: &mut L) -> Result<u32, Refusal>
         ensures { AttendsBy L.Line.fetches L.Line.replies c (world self.old) line.old result (world self.new) line.new }
     {
-        if c as usize >= self.count {
-            return Err(Refusal::NoCard);
-        }
+        within(c, self.cards.len(), Refusal::NoCard)?;
         let card = self.cards[c as usize];
-        if let Some(_) = card.update {
-            return Err(Refusal::UpdateInHand);
-        }
+        idle(&card)?;
         let Some(n) = line.fetch(c) else {
             return Ok(0);
         };
@@ -53,9 +49,7 @@ impl<C: Copy> Store<'_, C> {
     pub fn knock<L: Line>(&self, c: u8, line: &mut L) -> Result<u32, Refusal>
         ensures { KnocksBy L.Line.sends c (world self.now) line.old result line.new }
     {
-        if c as usize >= self.count {
-            return Err(Refusal::NoCard);
-        }
+        within(c, self.cards.len(), Refusal::NoCard)?;
         if !ordering(self.state.phase) {
             return Err(Refusal::WrongPhase);
         }
@@ -86,17 +80,12 @@ impl<C: Copy> Store<'_, C> {
     fn all_answered(&self) -> bool
         ensures { result ≡ all_of (length (world self.now).cards) (world self.now).answered }
     {
-        for i in 0..self.count {
-            if !self.state.answered[i] {
-                return false;
-            }
-        }
-        true
+        self.state.answered[..self.cards.len()].iter().all(|a| *a)
     }
 
     // Card c has answered; whether all have.
     fn answered(&mut self, c: u8) -> bool
-        requires { c < self.old.count }
+        requires { c < length (world self.old).cards }
         ensures does { world self.new ≡ answered_by (world self.old) c }
         ensures all { result ≡ everyone (world self.new) }
     {
@@ -114,7 +103,7 @@ impl<C: Copy> Store<'_, C> {
 
     // The collector's step on a reply of card c: the phase and whether the reply is to the order of now decide together.
     fn step(&mut self, c: u8, n: u32)
-        requires { ((c < self.old.count) × (ordering self.old.state.phase ≡ true)) }
+        requires { (c < length (world self.old).cards) × (ordering self.old.state.phase ≡ true) }
         ensures { world self.new ≡ hear_done (world self.old) c (Some n) }
     {
         match (self.state.phase, n == self.state.order) {
@@ -146,9 +135,7 @@ impl<C: Copy> Store<'_, C> {
     pub fn hear<L: Line>(&mut self, c: u8, line: &mut L) -> Result<u32, Refusal>
         ensures { HearsBy L.Line.collects c (world self.old) line.old result (world self.new) line.new }
     {
-        if c as usize >= self.count {
-            return Err(Refusal::NoCard);
-        }
+        within(c, self.cards.len(), Refusal::NoCard)?;
         if !ordering(self.state.phase) {
             return Err(Refusal::WrongPhase);
         }

@@ -1,42 +1,63 @@
 //! Records, cards and cells, one at a time.
-ghost use Rattle.std.specs.Prelude.{◌≡◌, ℕ, ◌+◌, ◌-◌, ◌*◌, ◌/◌, ◌%◌, ◌^◌, ◌<◌, ◌≤◌, true, false, [], ◌∷◌, ◌++◌, length, if◌then◌else◌, Some, None, vec_len, vec_capacity, MatchOption, nat_le, slice_index_or, slice_set};
-ghost use Rattle.std.specs.List.{slice_get};
+ghost use Rattle.std.specs.Prelude.{◌≡◌, ℕ, ◌+◌, ◌-◌, ◌*◌, ◌/◌, ◌%◌, ◌^◌, ◌<◌, ◌≤◌, true, false, [], ◌∷◌, ◌++◌, length, if◌then◌else◌, Some, None, vec_len, vec_capacity, MatchOption, IfErr, OnOk, is_some, nat_le, slice_index_or, slice_set};
 ghost use Rattle.std.specs.Option.{option_to_list};
-ghost use Rattle.machine.specs.World.{view_of, see, unsnoop, set_place, set_update, set_link, log_by, snoopen, newborn, empty_links, alter_at, alter_all, alter, unlog, greyen, blacken, other, same_colour};
+ghost use Rattle.arrayvec.specs.ArrayVec.{array_vec_len};
+ghost use Rattle.machine.specs.World.{view_of, see, unsnoop, set_place, set_update, alter_card, set_link, log_by, snoopen, newborn, empty_links, alter_at, alter_all, alter, unlog, greyen, blacken, other, same_colour};
 ghost use Rattle.machine.specs.Waiting.{pale, name_if};
 ghost use Rattle.machine.specs.Cards.{noted, snoop_on};
 ghost use Rattle.machine.specs.Rounds.{heed, ordering};
 ghost use Rattle.store.specs.Model.{stack, spares, given, within, sweeping};
 
+use arrayvec::ArrayVec;
 use machine::types::{Card, Cell, Colour, Phase, Record, Stage, Update};
+use refusal::Refusal;
 
-pub(crate) fn link_of(r: Record, i: u8) -> Option<u16>
-    requires { i < 4 }
-    ensures { result ≡ slice_index_or r.links i None }
+// A number that is not below count is refused.
+pub(crate) fn within(n: u8, count: usize, refusal: Refusal) -> Result<(), Refusal>
+    ensures inside { OnOk result (n < count) }
+    ensures outside { IfErr result (λ r. (r ≡ refusal) × (count ≤ n)) }
 {
-    r.links[i as usize]
+    if (n as usize) < count {
+        Ok(())
+    } else {
+        Err(refusal)
+    }
 }
 
-pub(crate) fn place_of(k: Card, p: u8) -> Option<u16>
-    requires { p < 8 }
-    ensures { result ≡ slice_index_or k.places p None }
+// A card that has an update in hand is refused what it must not do meanwhile.
+pub(crate) fn idle(card: &Card) -> Result<(), Refusal>
+    ensures idle { OnOk result (is_some card.now.update ≡ false) }
+    ensures busy { IfErr result (λ r. (r ≡ Refusal.UpdateInHand) × (is_some card.now.update ≡ true)) }
 {
-    k.places[p as usize]
+    match card.update {
+        None => Ok(()),
+        Some(_) => Err(Refusal::UpdateInHand),
+    }
 }
 
-pub(crate) fn with_place(k: Card, p: u8, v: Option<u16>) -> Card
-    requires { p < 8 }
-    ensures { result ≡ set_place p v k }
+pub(crate) fn heed_order(cards: &mut ArrayVec<Card, 8>, c: u8, m: Colour, n: u32)
+    requires { c < array_vec_len cards.old }
+    ensures does { cards.new.items ≡ alter_card cards.old.items c (heed m n) }
+    ensures len { array_vec_len cards.new ≡ array_vec_len cards.old }
 {
-    let mut r = k;
-    r.places[p as usize] = v;
-    r
+    let card = heed(m, n, cards[c as usize]);
+    cards[c as usize] = card;
 }
 
-pub(crate) fn with_update(k: Card, u: Option<Update>) -> Card
-    ensures { result ≡ set_update u k }
+pub(crate) fn set_place(cards: &mut ArrayVec<Card, 8>, c: u8, p: u8, v: Option<u16>)
+    requires { (c < array_vec_len cards.old) × (p < 8) }
+    ensures does { cards.new.items ≡ alter_card cards.old.items c (set_place p v) }
+    ensures len { array_vec_len cards.new ≡ array_vec_len cards.old }
 {
-    Card { update: u, ..k }
+    cards[c as usize].places[p as usize] = v;
+}
+
+pub(crate) fn set_update(cards: &mut ArrayVec<Card, 8>, c: u8, u: Option<Update>)
+    requires { c < array_vec_len cards.old }
+    ensures does { cards.new.items ≡ alter_card cards.old.items c (set_update u) }
+    ensures len { array_vec_len cards.new ≡ array_vec_len cards.old }
+{
+    cards[c as usize].update = u;
 }
 
 pub(crate) fn noted(u: Update) -> Update
@@ -91,12 +112,6 @@ fn log_record(r: &mut Record, d: Option<[Option<u16>; 4]>)
     if r.log.is_none() {
         r.log = d;
     }
-}
-
-pub(crate) fn content_at<C: Copy>(s: &[C], i: usize) -> Option<C>
-    ensures { result ≡ slice_get s.now i }
-{
-    if i < s.len() { Some(s[i]) } else { None }
 }
 
 /// Past the end nothing is written.
@@ -257,7 +272,7 @@ pub(crate) fn view_of(r: Record) -> [Option<u16>; 4]
     }
 }
 
-pub(crate) fn heed(m: Colour, n: u32, k: Card) -> Card
+fn heed(m: Colour, n: u32, k: Card) -> Card
     ensures { result ≡ heed m n k }
 {
     let r = n % 4;

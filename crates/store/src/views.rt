@@ -1,5 +1,5 @@
 //! What a store holds, for whoever only looks at it.
-ghost use Rattle.std.specs.Prelude.{◌≡◌};
+ghost use Rattle.std.specs.Prelude.{◌≡◌, length};
 ghost use Rattle.std.specs.List.{slice_get};
 ghost use Rattle.store.specs.Model.{stack};
 ghost use Rattle.store.specs.World.{world, round_of, round_in};
@@ -37,12 +37,12 @@ impl<C: Copy> Store<'_, C> {
     pub fn cards(&self) -> &[Card]
         ensures { result.now ≡ (world self.now).cards }
     {
-        &self.cards[0..self.count]
+        self.cards.as_slice()
     }
 
     /// Colours, counts, phase, order number, answers and sweep cell. Of the answers only those of the store's cards count.
     pub fn round(&self) -> RoundState
-        ensures { round_of result self.now.count ≡ round_in (world self.now) }
+        ensures { round_of result (length (world self.now).cards) ≡ round_in (world self.now) }
     {
         self.state
     }

@@ -3,6 +3,7 @@ ghost use Rattle.std.specs.Prelude.{◌≡◌};
 ghost use Rattle.store.specs.Model.{Tables, Lists, Numbers};
 
 use crate::types::RoundState;
+use arrayvec::ArrayVec;
 use machine::types::{Card, Cell};
 
 /// A store of up to 4,096 records over tables that are lent to it, for any contents that can be copied.
@@ -10,12 +11,11 @@ use machine::types::{Card, Cell};
 pub struct Store<'a, C> {
     pub(crate) cells: &'a mut [Cell],
     pub(crate) contents: &'a mut [C],
-    pub(crate) cards: [Card; 8],
-    pub(crate) count: usize,
+    pub(crate) cards: ArrayVec<Card, 8>,
     pub(crate) free: Vec<u16>,
     pub(crate) waiting: Vec<u16>,
     pub(crate) state: RoundState,
-    ghost tables: { Tables cells.now contents.now count },
-    ghost lists: { Lists cells.now cards state.answered free waiting },
+    ghost tables: { Tables cells.now contents.now cards.items },
+    ghost lists: { Lists cells.now state.answered free waiting },
     ghost numbers: { Numbers cells.now free waiting state },
 }

@@ -1,25 +1,15 @@
-use Rattle.std.proofs.Common.{◌≡◌, false, length, take, sym, ap, ◌∙◌, arith, length-take-le, get_or-take}
+use Rattle.std.proofs.Common.{◌≡◌, length, take, ap, ◌∙◌, arith, rules, length-take-le}
+use Rattle.std.proofs.lemmas.Iterator.{YieldsList-from_slice}
+use Rattle.std.proofs.lemmas.Iterator.Search.{all_from_yields_List}
+use borrow.Author.Tests.{tests}
+use Rattle.arrayvec.specs.ArrayVec.{array_vec_len}
 use Rattle.machine.specs.Rounds.{all_of}
-use Rattle.store.proofs.Gathering.{all_none, all_more, not_all}
+use Rattle.store.proofs.Gathering.{all_of_all}
 use Rattle.store.proofs.whole.Store.all_answered.Goals as goal
-
-pub loop-i-preserved : goal.loop-i-preserved
-loop-i-preserved g c =
-    let s = c.args.self.now in
-    all_more (take s.count s.state.answered) c.loop-i.i c.loop-i.invariant (get_or-take s.count s.state.answered c.loop-i.i false c.loop-i-test.true ∙ c.if-not-self-i.false)
-
-pub loop-i-init : goal.loop-i-init
-loop-i-init g c = all_none (take c.args.self.now.count c.args.self.now.state.answered)
-
-pub returns-then-not-self-i : goal.returns-then-not-self-i
-returns-then-not-self-i g c =
-    let s = c.args.self.now in
-    let n : length (take s.count s.cards) ≡ s.count = length-take-le s.count s.cards (omega arith) in
-    sym (not_all (take s.count s.state.answered) (length (take s.count s.cards)) c.loop-i.i (omega (arith, n, c.loop-i-test.true)) (get_or-take s.count s.state.answered c.loop-i.i false c.loop-i-test.true ∙ c.if-not-self-i.true))
 
 pub returns : goal.returns
 returns g c =
     let s = c.args.self.now in
-    let n : length (take s.count s.cards) ≡ s.count = length-take-le s.count s.cards (omega arith) in
-    let e : length (take s.count s.cards) ≡ c.loop-i.i = omega (arith, n) in
-    sym (ap (λ m. all_of m (take s.count s.state.answered)) e ∙ c.loop-i.invariant)
+    let l = take (array_vec_len s.cards) s.state.answered in
+    let n : length l ≡ array_vec_len s.cards = length-take-le (array_vec_len s.cards) s.state.answered (omega arith) in
+    all_from_yields_List (λ b. b) _ _ c.all.result c.all.ensures.ran (YieldsList-from_slice l cc) (λ x b q k. search (rules, tests)) ∙ all_of_all l ∙ ap (λ m. all_of m l) n

@@ -3,5 +3,5 @@ use Rattle.machine.specs.Waiting.{put_all}
 use Rattle.store.specs.World.{world}
 use Rattle.store.proofs.whole.Store.put_all.Given as goal
 
-abbrev pub invariant-loop-i : goal.invariant-loop-i
-invariant-loop-i g l = put_all (world l.initial.self) l.vs ≡ put_all (world l.self) (drop l.i l.vs)
+abbrev pub invariant-loop-v : goal.invariant-loop-v
+invariant-loop-v g l = put_all (world l.initial.self) l.vs ≡ put_all (world l.self) (drop l.v-index l.vs)

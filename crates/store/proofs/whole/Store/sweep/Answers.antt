@@ -26,4 +26,4 @@ pub invariant_of-self-2-clause-lists : goal.invariant_of-self-2-clause-lists
 invariant_of-self-2-clause-lists g c =
     let s = c.args.self.now in
     let n : length (set s.cells.now s.state.sweep None) ≡ length s.cells.now = length-set s.cells.now s.state.sweep None in
-    (s.lists.0, s.lists.1, omega (arith, n, s.lists.2, c.push.ensures.capacity), omega (arith, n, s.lists.3))
+    (s.lists.0, omega (arith, n, s.lists.1, c.push.ensures.capacity), omega (arith, n, s.lists.2))

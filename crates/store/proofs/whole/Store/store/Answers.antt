@@ -1,6 +1,0 @@
-use Rattle.std.proofs.Common.{rules}
-use Rattle.store.proofs.Cards.{card_here, card_put}
-use Rattle.store.proofs.whole.Store.store.Goals as goal
-
-pub returns : goal.returns
-returns g c = search (rules, card_here, card_put)
