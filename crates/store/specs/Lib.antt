@@ -4,3 +4,4 @@ pub mod World
 pub mod Ready
 pub mod Making
 pub mod Restored
+pub mod Reasons

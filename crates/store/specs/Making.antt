@@ -5,8 +5,8 @@ use Rattle.machine.specs.World.{Cell}
 use Rattle.machine.specs.World.{World, fresh}
 use Rattle.store.specs.Ready.{unfit}
 use Rattle.store.specs.declared.plan.Plan.{Plan}
-use Rattle.store.specs.declared.plan.Why.{Why}
-use Rattle.store.specs.declared.plan.Why.TheVariants.{Refused, NoMemory}
+use Rattle.store.specs.declared.why.Why.{Why}
+use Rattle.store.specs.declared.why.Why.TheVariants.{Refused, NoMemory}
 use Rattle.store.specs.declared.plan.NotMade.{NotMade}
 
 -- a refusal is 14 and given just where something does not fit

@@ -1,3 +1,4 @@
+use crate::lists::Lists;
 use machine::types::Cell;
 
 /// The parts of a store that is to be made.
@@ -8,6 +9,5 @@ pub struct Draft<'a, C> {
     pub cards: u8,
     pub first: u32,
     pub rounds: u32,
-    pub free: Vec<u16>,
-    pub waiting: Vec<u16>,
+    pub lists: Lists,
 }

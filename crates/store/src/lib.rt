@@ -3,6 +3,7 @@
 
 mod calls;
 mod draft;
+mod lists;
 mod making;
 mod marks;
 mod over;
@@ -14,9 +15,12 @@ mod stock;
 mod types;
 mod views;
 mod whole;
+mod why;
 
-pub use plan::{NotMade, Plan, Why};
+pub use lists::Lists;
+pub use plan::{NotMade, Plan};
 pub use restore::Restore;
 pub use stock::Stock;
 pub use types::RoundState;
 pub use whole::Store;
+pub use why::Why;

@@ -1,16 +1,18 @@
 //! A store as it is made.
-ghost use Rattle.std.specs.Prelude.{◌≡◌, ℕ, ◌+◌, ◌-◌, ◌*◌, ◌/◌, ◌%◌, ◌^◌, ◌<◌, ◌≤◌, [], length, replicate, vec_len, vec_capacity};
+ghost use Rattle.std.specs.Prelude.{false, ◌≡◌, ℕ, ◌+◌, ◌-◌, ◌*◌, ◌/◌, ◌%◌, ◌^◌, ◌<◌, ◌≤◌, [], IfOk, IfErr, length, replicate, vec_len, vec_capacity};
 ghost use Rattle.machine.specs.World.{fresh, count_up, fresh_card};
 ghost use Rattle.store.specs.Model.{stack};
-ghost use Rattle.store.specs.Ready.{Ready, bad_tables, bad_numbers, unfit};
-ghost use Rattle.store.specs.Making.{Checked, asked, made_of};
+ghost use Rattle.store.specs.Ready.{Ready, RoomFor, bad_tables, bad_numbers, unfit};
+ghost use Rattle.store.specs.Making.{Checked, Tells, asked, made_of};
 ghost use Rattle.store.specs.World.{world};
 
 use crate::draft::Draft;
+use crate::lists::Lists;
 use crate::parts::{newborn, push};
-use crate::plan::{NotMade, Plan, Why};
+use crate::plan::{NotMade, Plan};
 use crate::types::RoundState;
 use crate::whole::Store;
+use crate::why::Why;
 use arrayvec::ArrayVec;
 use machine::types::{Card, Cell, Colour, Phase};
 use refusal::Refusal;
@@ -69,6 +71,24 @@ fn bad_numbers(cards: u8, first: u32, rounds: u32) -> bool
     cards == 0 || cards > 8 || first == 0 || first == u32::MAX || rounds > LAST_ROUND
 }
 
+// Memory for the lists of a store over n cells and m contents, where these numbers make one.
+fn lists_for(
+    heap: Global,
+    n: usize,
+    m: usize,
+    cards: u8,
+    first: u32,
+    rounds: u32,
+) -> Result<Lists, Why>
+    ensures made { IfOk result (λ l. (unfit n m cards first rounds ≡ false) × RoomFor n l.free l.waiting) }
+    ensures refused { IfErr result (λ w. Tells w (unfit n m cards first rounds)) }
+{
+    if is_unfit(n, m, cards, first, rounds) {
+        return Err(Why::Refused(Refusal::OutOfRange));
+    }
+    Ok(Lists::with_room(heap, n)?)
+}
+
 // Writes the store's beginning into the tables.
 fn build<C: Copy>(draft: Draft<'_, C>, index: C) -> Store<'_, C>
     requires { Ready draft }
@@ -80,9 +100,9 @@ fn build<C: Copy>(draft: Draft<'_, C>, index: C) -> Store<'_, C>
         cards,
         first,
         rounds,
-        mut free,
-        waiting,
+        lists,
     } = draft;
+    let Lists { mut free, waiting } = lists;
     fill_free(&mut free, cells.len());
     clear_cells(cells);
     cells[0] = Some(newborn(first, Colour::Zero));
@@ -122,38 +142,23 @@ impl<'a, C: Copy> Plan<'a, C> {
     ) -> Result<Plan<'a, C>, NotMade<'a, C>>
         ensures { Checked (record { cells = cells.old; contents = contents.old; cards = cards; first = first; rounds = rounds }) result }
     {
-        if is_unfit(cells.len(), contents.len(), cards, first, rounds) {
-            return Err(NotMade {
-                why: Why::Refused(Refusal::OutOfRange),
+        match lists_for(heap, cells.len(), contents.len(), cards, first, rounds) {
+            Ok(lists) => Ok(Plan {
+                draft: Draft {
+                    cells,
+                    contents,
+                    cards,
+                    first,
+                    rounds,
+                    lists,
+                },
+            }),
+            Err(why) => Err(NotMade {
+                why,
                 cells,
                 contents,
-            });
+            }),
         }
-        let Ok(free) = Vec::with_capacity(heap, cells.len()) else {
-            return Err(NotMade {
-                why: Why::NoMemory,
-                cells,
-                contents,
-            });
-        };
-        let Ok(waiting) = Vec::with_capacity(heap, cells.len()) else {
-            return Err(NotMade {
-                why: Why::NoMemory,
-                cells,
-                contents,
-            });
-        };
-        Ok(Plan {
-            draft: Draft {
-                cells,
-                contents,
-                cards,
-                first,
-                rounds,
-                free,
-                waiting,
-            },
-        })
     }
 
     /// Makes the store, with these contents for its index record. It cannot fail.

@@ -21,7 +21,7 @@ returns g c =
     let d = c.args.draft in
     let n = length d.cells.now in
     let few : d.cards ≤ 8 = search rules in
-    let t : stack d.waiting ≡ [] = stack_none d.waiting c.requires.4 in
+    let t : stack d.lists.waiting ≡ [] = stack_none d.lists.waiting search rules in
     let k : take d.cards (replicate 8 c.fresh_card-card.result) ≡ replicate d.cards c.fresh_card-card.result = take_same d.cards 8 c.fresh_card-card.result few in
     let a : take d.cards (replicate 8 false) ≡ replicate d.cards false = take_same d.cards 8 false few in
     search (rules, t, k, a)
