@@ -5,3 +5,4 @@ pub mod Ready
 pub mod Making
 pub mod Restored
 pub mod Reasons
+pub mod Altering

@@ -5,9 +5,8 @@ ghost use Rattle.machine.specs.World.{at, named, serial_of, read_all, same_colou
 ghost use Rattle.machine.specs.Cards.{drop_call, load_call, copy_call, new_call, read_call, look_call, note_call, store_call};
 ghost use Rattle.store.specs.World.{world};
 
-use crate::parts::{
-    idle, log, newborn, noted, pop, put, relink, set_place, set_update, snoop_on, within,
-};
+use crate::parts::{idle, newborn, noted, pop, put, set_place, set_update, within};
+use crate::records::{log, relink, snoop_on};
 use crate::whole::Store;
 use machine::types::{Cell, Record, Stage, Update};
 use refusal::Refusal;
@@ -17,7 +16,7 @@ impl<C: Copy> Store<'_, C> {
     pub(crate) fn at(&self, x: u16) -> Cell
         ensures { result ≡ at (world self.now) x }
     {
-        self.cells.get(x as usize).copied().flatten()
+        *self.cells.get(x as usize)?
     }
 
     // The record that a name names.

@@ -9,6 +9,7 @@ mod marks;
 mod over;
 mod parts;
 mod plan;
+mod records;
 mod restore;
 mod rounds;
 mod stock;

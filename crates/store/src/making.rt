@@ -48,8 +48,8 @@ fn fill_free(free: &mut Vec<u16>, n: usize)
     ensures len { vec_len free.new ≡ n - 1 }
     ensures capacity { n ≤ vec_capacity free.new }
 {
-    for k in 0..n - 1 {
-        push(free, (n - 1 - k) as u16);
+    for k in (1..n as u16).rev() {
+        push(free, k);
     }
 }
 

@@ -5,7 +5,8 @@ ghost use Rattle.machine.specs.Rounds.{enter, trace_call};
 ghost use Rattle.store.specs.Model.{given, within, sweeping};
 ghost use Rattle.store.specs.World.{world};
 
-use crate::parts::{blacken, greyen, pale, pop, push, view_of};
+use crate::parts::{pale, pop, push, view_of};
+use crate::records::{blacken, greyen};
 use crate::whole::Store;
 use machine::types::{Cell, Phase};
 use refusal::Refusal;

@@ -100,102 +100,12 @@ pub(crate) fn pale(m: Colour, cell: Cell) -> bool
     }
 }
 
-fn relink_record(r: &mut Record, i: u8, v: Option<u16>)
-    ensures { r.new ≡ set_link i v r.old }
-{
-    put(&mut r.links, i as usize, v);
-}
-
-fn log_record(r: &mut Record, d: Option<[Option<u16>; 4]>)
-    ensures { r.new ≡ log_by d r.old }
-{
-    if r.log.is_none() {
-        r.log = d;
-    }
-}
-
 /// Past the end nothing is written.
 pub(crate) fn put<T: Copy>(s: &mut [T], i: usize, x: T)
     ensures { s.new ≡ slice_set s.old i x }
 {
     if i < s.len() {
         s[i] = x;
-    }
-}
-
-pub(crate) fn relink(cells: &mut [Cell], x: u16, i: u8, v: Option<u16>)
-    ensures does { cells.new ≡ alter_at cells.old x (set_link i v) }
-    ensures room { spares cells.new ≡ spares cells.old }
-{
-    let at = x as usize;
-    if at < cells.len() {
-        if let Some(r) = &mut cells[at] {
-            relink_record(r, i, v);
-        }
-    }
-}
-
-pub(crate) fn log(cells: &mut [Cell], x: u16, d: Option<[Option<u16>; 4]>)
-    ensures does { cells.new ≡ alter_at cells.old x (log_by d) }
-    ensures room { spares cells.new ≡ spares cells.old }
-{
-    let at = x as usize;
-    if at < cells.len() {
-        if let Some(r) = &mut cells[at] {
-            log_record(r, d);
-        }
-    }
-}
-
-fn snoop(cells: &mut [Cell], x: u16)
-    ensures does { cells.new ≡ alter_at cells.old x snoopen }
-    ensures room { spares cells.new ≡ spares cells.old }
-{
-    let at = x as usize;
-    if at < cells.len() {
-        if let Some(r) = &mut cells[at] {
-            r.snooped = true;
-        }
-    }
-}
-
-pub(crate) fn snoop_on(cells: &mut [Cell], on: bool, v: Option<u16>)
-    ensures does { cells.new ≡ snoop_on on cells.old v }
-    ensures room { spares cells.new ≡ spares cells.old }
-{
-    if !on {
-        return;
-    }
-    let Some(x) = v else {
-        return;
-    };
-    snoop(cells, x);
-}
-
-pub(crate) fn greyen(cells: &mut [Cell], x: u16, m: Colour)
-    requires { pale m (slice_index_or cells.old x None) ≡ true }
-    ensures does { cells.new ≡ alter_at cells.old x greyen }
-    ensures room { spares cells.new ≡ spares cells.old + 1 }
-    ensures most { spares cells.new ≤ length cells.new }
-{
-    let at = x as usize;
-    if at < cells.len() {
-        if let Some(r) = &mut cells[at] {
-            r.waiting = true;
-        }
-    }
-}
-
-pub(crate) fn blacken(cells: &mut [Cell], x: u16, m: Colour)
-    ensures does { cells.new ≡ alter_at cells.old x (blacken m) }
-    ensures room { spares cells.old ≤ spares cells.new + 1 }
-{
-    let at = x as usize;
-    if at < cells.len() {
-        if let Some(r) = &mut cells[at] {
-            r.colour = m;
-            r.waiting = false;
-        }
     }
 }
 
