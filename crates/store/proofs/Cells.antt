@@ -1,11 +1,11 @@
 -- Cells changed in place, and how many of them are spare.
-use Rattle.std.proofs.Common.{◌≡◌, ℕ, zero, suc, ◌+◌, ◌<◌, ◌≤◌, Bool, true, false, cond, not, ◌||◌, List, [], ◌∷◌, map, length, get_or, set, refl, ap, ◌∙◌, arith, None, Some}
+use Rattle.std.proofs.Common.{◌≡◌, ℕ, zero, suc, ◌+◌, ◌<◌, ◌≤◌, Bool, true, false, cond, not, ◌||◌, List, [], ◌∷◌, length, get_or, set, refl, ap, ◌∙◌, arith, None, Some}
 use Rattle.machine.specs.declared.types.Colour.{Colour}
 use Rattle.machine.specs.declared.types.Record.{Record}
 use Rattle.machine.specs.World.{Cell}
 use Rattle.machine.specs.World.{alter, alter_at, alter_all, greyen, same_colour}
 use Rattle.machine.specs.Waiting.{pale}
-use Rattle.store.specs.Altering.{Alters, AltersAt}
+use Rattle.store.specs.Altering.{Alters, AltersAt, AltersFirst}
 use Rattle.store.specs.Model.{spare, spares}
 
 -- a change of which all that is known is a relation, where that relation tells the record that is left
@@ -16,6 +16,16 @@ alters_is R f k (Some r) d e = e.2 ∙ ap Some (k r e.0 e.1)
 pub alters_at : (R : Record → Record → Type 0) (f : Record → Record) → ((r s : Record) → R r s → s ≡ f r) → (h : List Cell) (x : ℕ) (g : List Cell) → AltersAt R h x g → g ≡ alter_at h x f
 unfolding alter_at
 alters_at R f k h x g e = e.2 ∙ ap (set h x) (alters_is R f k (get_or h x None) e.0 e.1)
+
+pub alters_all : (R : Record → Record → Type 0) (f : Record → Record) → ((r s : Record) → R r s → s ≡ f r) → (h g : List Cell) → AltersFirst R h g (length h) → g ≡ alter_all h f
+unfolding alter_all
+alters_all R f k [] [] e = refl
+alters_all R f k [] (d ∷ g) e = absurd (omega (arith, e.long))
+alters_all R f k (c ∷ h) [] e = absurd (omega (arith, e.long))
+alters_all R f k (c ∷ h) (d ∷ g) e =
+    let here = alters_is R f k c d (e.changed 0 (omega arith)) in
+    let rest = alters_all R f k h g (record { long = omega (arith, e.long); changed = λ i l. e.changed (suc i) (omega (arith, l)) }) in
+    ap (λ x. x ∷ g) here ∙ ap (λ t. alter f c ∷ t) rest
 
 -- one cell written: the count follows that cell
 pub spares_set : (h : List Cell) (x : ℕ) (c : Cell) → x < length h → spares (set h x c) + spare (get_or h x None) ≡ spares h + spare c
@@ -64,17 +74,12 @@ pale_spare m (Some r) e = ap {B = ℕ} (λ b. cond b 1 0) (quiet (same_colour r.
 pub spares_freed : (m : Colour) (h : List Cell) (x : ℕ) → pale m (get_or h x None) ≡ true → x < length h → spares (set h x None) ≡ spares h + 1
 spares_freed m h x e l = omega (arith, spares_set h x None l, pale_spare m (get_or h x None) e)
 
-pub alter_all-map : (h : List Cell) (f : Record → Record) → map (alter f) h ≡ alter_all h f
-unfolding alter_all
-alter_all-map [] f = refl
-alter_all-map (c ∷ h) f = ap (λ t. alter f c ∷ t) (alter_all-map h f)
-
 same_all : (f : Record → Record) → ((r : Record) → (f r).waiting ≡ r.waiting) → (c : Cell) → spare (alter f c) ≡ spare c
 same_all f k None = refl
 same_all f k (Some r) = ap {B = ℕ} (λ b. cond b 1 0) (k r)
 
-pub spares_all : (f : Record → Record) → ((r : Record) → (f r).waiting ≡ r.waiting) → (h : List Cell) → spares (map (alter f) h) ≡ spares h
-unfolding spares
+pub spares_all : (f : Record → Record) → ((r : Record) → (f r).waiting ≡ r.waiting) → (h : List Cell) → spares (alter_all h f) ≡ spares h
+unfolding spares alter_all
 spares_all f k [] = refl
 spares_all f k (c ∷ h) = omega (arith, same_all f k c, spares_all f k h)
 

@@ -1,7 +1,12 @@
 -- Records changed in place, where all that is known of the change is a relation between a record before and after it.
 use Rattle.std.specs.Prelude.{◌≡◌, ℕ, ◌<◌, List, length, Some, None, slice_index_or, slice_set}
+use Rattle.std.specs.Borrow.{MutBor}
 use Rattle.machine.specs.declared.types.Record.{Record}
 use Rattle.machine.specs.World.{Cell}
+
+-- r becomes s by a call of a closure, of which P says what it may leave
+abbrev pub ByCall : (MutBor Record → Unit {0} → MutBor Record → Type 0) → Record → Record → Type 0
+ByCall P r s = (a : MutBor Record) × (b : MutBor Record) × (a.now ≡ r) × P a tt b × (b.now ≡ s)
 
 -- one cell, before and after: a free cell stays free
 abbrev pub Alters : (Record → Record → Type 0) → Cell → Cell → Type 0

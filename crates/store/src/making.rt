@@ -20,14 +20,6 @@ use std::alloc::Global;
 
 const LAST_ROUND: u32 = 1_073_741_823;
 
-fn clear_cells(cells: &mut [Cell])
-    ensures { cells.new ≡ replicate (length cells.old) None }
-{
-    for cell in cells.iter_mut() {
-        *cell = None;
-    }
-}
-
 fn fresh_card(rounds: u32) -> Card
     requires { rounds ≤ 1073741823 }
     ensures { result ≡ fresh_card rounds }
@@ -104,7 +96,7 @@ fn build<C: Copy>(draft: Draft<'_, C>, index: C) -> Store<'_, C>
     } = draft;
     let Lists { mut free, waiting } = lists;
     fill_free(&mut free, cells.len());
-    clear_cells(cells);
+    cells.fill(None);
     cells[0] = Some(newborn(first, Colour::Zero));
     contents[0] = index;
     let card = fresh_card(rounds);

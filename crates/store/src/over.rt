@@ -5,7 +5,8 @@ ghost use Rattle.machine.specs.Waiting.{put_all, snooped_names};
 ghost use Rattle.store.specs.World.{world};
 ghost use Rattle.store.specs.Over.{KnocksBy, AttendsBy, HearsBy};
 
-use crate::parts::{heed_order, idle, ordering, snooped_name, unsnoop_all, within};
+use crate::parts::{heed_order, idle, ordering, snooped_name, within};
+use crate::records::unsnoop_all;
 use crate::whole::Store;
 use line::Line;
 use machine::types::Phase;

@@ -121,40 +121,6 @@ pub(crate) fn after_sweep(n: usize, x: u16) -> Phase
     }
 }
 
-fn unlog_cell(cell: &mut Cell)
-    ensures { cell.new ≡ alter unlog cell.old }
-{
-    if let Some(r) = cell {
-        r.log = None;
-    }
-}
-
-pub(crate) fn unlog_all(cells: &mut [Cell])
-    ensures does { cells.new ≡ alter_all cells.old unlog }
-    ensures room { spares cells.new ≡ spares cells.old }
-{
-    for cell in cells.iter_mut() {
-        unlog_cell(cell);
-    }
-}
-
-fn unsnoop_cell(cell: &mut Cell)
-    ensures { cell.new ≡ alter unsnoop cell.old }
-{
-    if let Some(r) = cell {
-        r.snooped = false;
-    }
-}
-
-pub(crate) fn unsnoop_all(cells: &mut [Cell])
-    ensures does { cells.new ≡ alter_all cells.old unsnoop }
-    ensures room { spares cells.new ≡ spares cells.old }
-{
-    for cell in cells.iter_mut() {
-        unsnoop_cell(cell);
-    }
-}
-
 pub(crate) fn snooped_name(cell: Cell, x: u16) -> Option<u16>
     ensures { result ≡ name_if (see (λ r. r.snooped) false cell) x }
 {

@@ -5,7 +5,7 @@ ghost use Rattle.machine.specs.World.{set_link, log_by, snoopen, alter_at, alter
 ghost use Rattle.machine.specs.Cards.{snoop_on};
 ghost use Rattle.machine.specs.Waiting.{pale};
 ghost use Rattle.store.specs.Model.{spares};
-ghost use Rattle.store.specs.Altering.{AltersAt, AltersFirst};
+ghost use Rattle.store.specs.Altering.{AltersAt, AltersFirst, ByCall};
 
 use crate::parts::put;
 use machine::types::{Cell, Colour, Record};
@@ -73,4 +73,30 @@ pub(crate) fn blacken(cells: &mut [Cell], x: u16, m: Colour)
         r.colour = m;
         r.waiting = false;
     });
+}
+
+// Changes every record.
+fn alter_all<F: Fn(&mut Record)>(cells: &mut [Cell], change: F)
+    requires { F.IsAlwaysCallable change }
+    ensures { AltersFirst (ByCall (F.post change)) cells.old cells.new (length cells.old) }
+{
+    for cell in cells.iter_mut() {
+        if let Some(r) = cell {
+            change(r);
+        }
+    }
+}
+
+pub(crate) fn unlog_all(cells: &mut [Cell])
+    ensures does { cells.new ≡ alter_all cells.old unlog }
+    ensures room { spares cells.new ≡ spares cells.old }
+{
+    alter_all(cells, |r| r.log = None);
+}
+
+pub(crate) fn unsnoop_all(cells: &mut [Cell])
+    ensures does { cells.new ≡ alter_all cells.old unsnoop }
+    ensures room { spares cells.new ≡ spares cells.old }
+{
+    alter_all(cells, |r| r.snooped = false);
 }

@@ -3,7 +3,8 @@ ghost use Rattle.machine.specs.World.{at};
 ghost use Rattle.machine.specs.Rounds.{open_call, sweep_call, settle_call};
 ghost use Rattle.store.specs.World.{world};
 
-use crate::parts::{after_sweep, other, pale, push, unlog_all};
+use crate::parts::{after_sweep, other, pale, push};
+use crate::records::unlog_all;
 use crate::whole::Store;
 use machine::types::{Cell, Phase};
 use refusal::Refusal;
