@@ -22,3 +22,24 @@ impl Lists {
         })
     }
 }
+
+#[cfg(test)]
+mod tests {
+    use super::*;
+    use std::test::Fail;
+
+    #[test]
+    fn there_is_room(rt: HostRuntime) -> Result<(), Fail> {
+        let Lists {
+            mut free,
+            mut waiting,
+        } = Lists::with_room(rt.alloc(), 2)?;
+        free.push(5)?;
+        free.push(6)?;
+        waiting.push(7)?;
+        assert_eq!(rt; free.pop(), Some(6));
+        assert_eq!(rt; waiting.pop(), Some(7));
+        assert_eq!(rt; waiting.pop(), None);
+        Ok(())
+    }
+}

@@ -10,15 +10,13 @@ use crate::draft::Draft;
 use crate::lists::Lists;
 use crate::parts::{newborn, push};
 use crate::plan::{NotMade, Plan};
-use crate::types::RoundState;
+use crate::types::{LAST_ROUND, RoundState};
 use crate::whole::Store;
 use crate::why::Why;
 use arrayvec::ArrayVec;
 use machine::types::{Card, Cell, Colour, Phase};
 use refusal::Refusal;
 use std::alloc::Global;
-
-const LAST_ROUND: u32 = 1_073_741_823;
 
 fn fresh_card(rounds: u32) -> Card
     requires { rounds ≤ 1073741823 }

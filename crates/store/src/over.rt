@@ -63,6 +63,7 @@ impl<C: Copy> Store<'_, C> {
         ensures { world self.new ≡ put_all (world self.old) (snooped_names 0 self.old.cells.now) }
     {
         let n = self.cells.len() as u16;
+        // kept: each turn writes the table that it walks, so nothing may borrow the table while the loop goes on.
         for i in 0..n {
             let v = snooped_name(self.at(i), i);
             self.put_waiting(v);
@@ -103,6 +104,7 @@ impl<C: Copy> Store<'_, C> {
     }
 
     // The collector's step on a reply of card c: the phase and whether the reply is to the order of now decide together.
+    // kept: the rules of the project name this form, the collector's own phase matched together with the reply's number.
     fn step(&mut self, c: u8, n: u32)
         requires { (c < length (world self.old).cards) × (ordering self.old.state.phase ≡ true) }
         ensures { world self.new ≡ hear_done (world self.old) c (Some n) }

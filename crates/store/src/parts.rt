@@ -94,10 +94,7 @@ pub(crate) fn other(m: Colour) -> Colour
 pub(crate) fn pale(m: Colour, cell: Cell) -> bool
     ensures { result ≡ pale m cell }
 {
-    match cell {
-        None => false,
-        Some(r) => !(r.colour == m || r.waiting),
-    }
+    cell.is_some_and(|r| !(r.colour == m || r.waiting))
 }
 
 /// Past the end nothing is written.
@@ -124,28 +121,19 @@ pub(crate) fn after_sweep(n: usize, x: u16) -> Phase
 pub(crate) fn snooped_name(cell: Cell, x: u16) -> Option<u16>
     ensures { result ≡ name_if (see (λ r. r.snooped) false cell) x }
 {
-    match cell {
-        None => None,
-        Some(r) => if r.snooped { Some(x) } else { None },
-    }
+    cell.filter(|r| r.snooped).map(|_| x)
 }
 
 pub(crate) fn ordering(p: Phase) -> bool
     ensures { result ≡ ordering p }
 {
-    match p {
-        Phase::Alert | Phase::Log | Phase::Gather | Phase::Ease => true,
-        Phase::Rest | Phase::Trace | Phase::Sweep | Phase::Settle => false,
-    }
+    matches!(p, Phase::Alert | Phase::Log | Phase::Gather | Phase::Ease)
 }
 
 pub(crate) fn view_of(r: Record) -> [Option<u16>; 4]
     ensures { result ≡ view_of r }
 {
-    match r.log {
-        None => r.links,
-        Some(l) => l,
-    }
+    r.log.unwrap_or(r.links)
 }
 
 fn heed(m: Colour, n: u32, k: Card) -> Card
@@ -153,19 +141,15 @@ fn heed(m: Colour, n: u32, k: Card) -> Card
 {
     let r = n % 4;
     Card {
-        snoop: if r == 1 {
-            true
-        } else if r == 3 {
-            false
-        } else {
-            k.snoop
+        snoop: match r {
+            1 => true,
+            3 => false,
+            _ => k.snoop,
         },
-        logging: if r == 2 {
-            true
-        } else if r == 0 {
-            false
-        } else {
-            k.logging
+        logging: match r {
+            2 => true,
+            0 => false,
+            _ => k.logging,
         },
         birth: if r == 3 { m } else { k.birth },
         last: n,

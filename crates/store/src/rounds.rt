@@ -1,3 +1,4 @@
+//! The calls of a round that go over no line.
 ghost use Rattle.std.specs.Prelude.{◌≡◌, ℕ, ◌+◌, ◌-◌, ◌*◌, ◌/◌, ◌%◌, ◌^◌, ◌<◌, ◌≤◌, true, length, Some, None};
 ghost use Rattle.machine.specs.World.{at};
 ghost use Rattle.machine.specs.Rounds.{open_call, sweep_call, settle_call};
@@ -5,6 +6,7 @@ ghost use Rattle.store.specs.World.{world};
 
 use crate::parts::{after_sweep, other, pale, push};
 use crate::records::unlog_all;
+use crate::types::LAST_ROUND;
 use crate::whole::Store;
 use machine::types::{Cell, Phase};
 use refusal::Refusal;
@@ -17,7 +19,7 @@ impl<C: Copy> Store<'_, C> {
         let Phase::Rest = self.state.phase else {
             return Err(Refusal::WrongPhase);
         };
-        if self.state.rounds == 1073741823 {
+        if self.state.rounds == LAST_ROUND {
             return Err(Refusal::Exhausted);
         }
         self.state.marked = other(self.state.marked);

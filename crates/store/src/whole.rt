@@ -9,6 +9,7 @@ use machine::types::{Card, Cell};
 /// A store of up to 4,096 records over tables that are lent to it, for any contents that can be copied.
 #[derive(Drop)]
 pub struct Store<'a, C> {
+    // kept: the tables are lent, one for the records and one for contents of any type, and records name cells by number.
     pub(crate) cells: &'a mut [Cell],
     pub(crate) contents: &'a mut [C],
     pub(crate) cards: ArrayVec<Card, 8>,

@@ -46,3 +46,25 @@ impl fmt::Display for Why {
 }
 
 impl Error for Why {}
+
+#[cfg(test)]
+mod tests {
+    use super::*;
+    use std::test::Fail;
+
+    #[test]
+    fn it_is_printed(rt: HostRuntime) -> Result<(), Fail> {
+        let heap = rt.alloc();
+        let refused = format!(in heap; "{}", Why::from(Refusal::OutOfRange))?;
+        assert_eq!(rt;
+            refused.as_str(),
+            "refused with 14: a number or a size is out of range"
+        );
+        let no_memory = format!(in heap; "{}", Why::NoMemory)?;
+        assert_eq!(rt;
+            no_memory.as_str(),
+            "there is no memory for the lists of a store"
+        );
+        Ok(())
+    }
+}
