@@ -1,6 +1,5 @@
 -- Which numbers and tables make a store.
-use Rattle.std.specs.Prelude.{◌≡◌, ℕ, ◌≤◌, Bool, false, not, ◌||◌, length, vec_len, vec_capacity, Vec, ◌==◌, nat_lt}
-use Rattle.store.specs.declared.draft.Draft.{Draft}
+use Rattle.std.specs.Prelude.{◌≡◌, ℕ, ◌≤◌, Bool, not, ◌||◌, vec_len, vec_capacity, Vec, ◌==◌, nat_lt}
 
 -- tables not of one length, empty or above 4,096
 abbrev pub bad_tables : (cells contents : ℕ) → Bool
@@ -21,9 +20,3 @@ RoomFor n free waiting =
     × (n ≤ vec_capacity waiting)
     × (vec_len free ≡ 0)
     × (vec_len waiting ≡ 0)
-
--- what a draft has been found to be
-abbrev pub Ready : {C : Type 0} → Draft C → Type 0
-Ready d =
-    (unfit (length d.cells.now) (length d.contents.now) d.cards d.first d.rounds ≡ false)
-    × RoomFor (length d.cells.now) d.lists.free d.lists.waiting

@@ -2,7 +2,6 @@
 #![tactic(auto)]
 
 mod calls;
-mod draft;
 mod lists;
 mod making;
 mod marks;

@@ -1,12 +1,11 @@
 //! A store as it is made.
 ghost use Rattle.std.specs.Prelude.{false, ◌≡◌, ℕ, ◌+◌, ◌-◌, ◌*◌, ◌/◌, ◌%◌, ◌^◌, ◌<◌, ◌≤◌, [], IfOk, IfErr, length, replicate, vec_len, vec_capacity};
-ghost use Rattle.machine.specs.World.{fresh, count_up, fresh_card};
+ghost use Rattle.machine.specs.World.{count_up, fresh_card};
 ghost use Rattle.store.specs.Model.{stack};
-ghost use Rattle.store.specs.Ready.{Ready, RoomFor, bad_tables, bad_numbers, unfit};
+ghost use Rattle.store.specs.Ready.{RoomFor, bad_tables, bad_numbers, unfit};
 ghost use Rattle.store.specs.Making.{Checked, Tells, asked, made_of};
 ghost use Rattle.store.specs.World.{world};
 
-use crate::draft::Draft;
 use crate::lists::Lists;
 use crate::parts::{newborn, push};
 use crate::plan::{NotMade, Plan};
@@ -14,7 +13,7 @@ use crate::types::{LAST_ROUND, RoundState};
 use crate::whole::Store;
 use crate::why::Why;
 use arrayvec::ArrayVec;
-use machine::types::{Card, Cell, Colour, Phase};
+use machine::types::{Card, Cell, Colour};
 use refusal::Refusal;
 use std::alloc::Global;
 
@@ -79,46 +78,6 @@ fn lists_for(
     Ok(Lists::with_room(heap, n)?)
 }
 
-// Writes the store's beginning into the tables.
-fn build<C: Copy>(draft: Draft<'_, C>, index: C) -> Store<'_, C>
-    requires { Ready draft }
-    ensures { world result ≡ fresh (length draft.entry.cells.now) draft.entry.contents.now draft.entry.cards draft.entry.first draft.entry.rounds index }
-{
-    let Draft {
-        cells,
-        contents,
-        cards,
-        first,
-        rounds,
-        lists,
-    } = draft;
-    let Lists { mut free, waiting } = lists;
-    fill_free(&mut free, cells.len());
-    cells.fill(None);
-    cells[0] = Some(newborn(first, Colour::Zero));
-    contents[0] = index;
-    let card = fresh_card(rounds);
-    let state = RoundState {
-        marked: Colour::Zero,
-        next: first + 1,
-        rounds,
-        phase: Phase::Rest,
-        order: 4 * rounds,
-        answered: [false; 8],
-        sweep: 0,
-    };
-    let mut all = ArrayVec::from([card; 8]);
-    all.truncate(cards as usize);
-    Store {
-        cells,
-        contents,
-        cards: all,
-        free,
-        waiting,
-        state,
-    }
-}
-
 impl<'a, C: Copy> Plan<'a, C> {
     /// Checks what a store is to be made of: its two tables, the number of cards, the first serial and the closed rounds.
     /// Nothing is written; where no store can be made the tables are handed back.
@@ -134,14 +93,12 @@ impl<'a, C: Copy> Plan<'a, C> {
     {
         match lists_for(heap, cells.len(), contents.len(), cards, first, rounds) {
             Ok(lists) => Ok(Plan {
-                draft: Draft {
-                    cells,
-                    contents,
-                    cards,
-                    first,
-                    rounds,
-                    lists,
-                },
+                cells,
+                contents,
+                cards,
+                first,
+                rounds,
+                lists,
             }),
             Err(why) => Err(NotMade {
                 why,
@@ -155,7 +112,28 @@ impl<'a, C: Copy> Plan<'a, C> {
     pub fn make(self, index: C) -> Store<'a, C>
         ensures { world result ≡ made_of (asked self.entry) index }
     {
-        let Plan { draft } = self;
-        build(draft, index)
+        let Plan {
+            cells,
+            contents,
+            cards,
+            first,
+            rounds,
+            lists,
+        } = self;
+        let Lists { mut free, waiting } = lists;
+        fill_free(&mut free, cells.len());
+        cells.fill(None);
+        cells[0] = Some(newborn(first, Colour::Zero));
+        contents[0] = index;
+        let mut all = ArrayVec::from([fresh_card(rounds); 8]);
+        all.truncate(cards as usize);
+        Store {
+            cells,
+            contents,
+            cards: all,
+            free,
+            waiting,
+            state: RoundState::at_rest(first + 1, rounds),
+        }
     }
 }

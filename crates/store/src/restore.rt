@@ -6,7 +6,6 @@ ghost use Rattle.store.specs.World.{world};
 use crate::stock::Stock;
 use crate::types::RoundState;
 use crate::whole::Store;
-use machine::types::{Colour, Phase};
 
 /// Parts that make a store: what a store asks of them is held in the type, so that putting them together cannot fail.
 #[derive(Drop)]
@@ -32,22 +31,13 @@ impl<'a, C: Copy> Restore<'a, C> {
             next,
             rounds,
         } = stock;
-        let state = RoundState {
-            marked: Colour::Zero,
-            next,
-            rounds,
-            phase: Phase::Rest,
-            order: 4 * rounds,
-            answered: [false; 8],
-            sweep: 0,
-        };
         Store {
             cells,
             contents,
             cards,
             free,
             waiting,
-            state,
+            state: RoundState::at_rest(next, rounds),
         }
     }
 }

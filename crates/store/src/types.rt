@@ -1,3 +1,5 @@
+ghost use Rattle.std.specs.Prelude.{◌≡◌, ◌*◌, ◌≤◌, false, replicate};
+
 use machine::types::{Colour, Phase};
 
 /// The plain numbers of a store.
@@ -11,6 +13,24 @@ pub struct RoundState {
     // kept: always eight, one for each card that a store may have; those of cards that it has not are never read.
     pub answered: [bool; 8],
     pub sweep: u16,
+}
+
+impl RoundState {
+    /// At rest, with nothing marked and nothing swept.
+    pub(crate) fn at_rest(next: u32, rounds: u32) -> RoundState
+        requires { rounds ≤ 1073741823 }
+        ensures { result ≡ record { marked = Colour.Zero; next = next; rounds = rounds; phase = Phase.Rest; order = 4 * rounds; answered = replicate 8 false; sweep = 0 } }
+    {
+        RoundState {
+            marked: Colour::Zero,
+            next,
+            rounds,
+            phase: Phase::Rest,
+            order: 4 * rounds,
+            answered: [false; 8],
+            sweep: 0,
+        }
+    }
 }
 
 /// The rounds of a store are counted up to this one.
