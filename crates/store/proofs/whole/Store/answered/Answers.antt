@@ -5,10 +5,7 @@ use Rattle.machine.specs.World.{with_answered}
 use Rattle.store.specs.World.{world}
 use Rattle.store.proofs.whole.Store.answered.Goals as goal
 
-pub returns : goal.returns
-returns g c =
+pub returns-clause-does : goal.returns-clause-does
+returns-clause-does g c =
     let s = c.args.self.now in
-    record {
-      does = ap (λ l. with_answered (world s) l) (take-set-lt (array_vec_len s.cards) s.state.answered c.args.c true c.requires);
-      all = c.all_answered.ensures;
-    }
+    ap (λ l. with_answered (world s) l) (take-set-lt (array_vec_len s.cards) s.state.answered c.args.c true c.requires)
