@@ -1,14 +1,15 @@
 use refusal::Refusal;
 
 /// A colour of records and births. A record of the store's marked colour is marked.
-#[derive(Clone, Copy, PartialEq, Eq)]
+#[derive(Clone, Copy, PartialEq, Eq, Default)]
 pub enum Colour {
+    #[default]
     Zero,
     One,
 }
 
 /// The phases of a round, in order and round again; Rest lies between two rounds.
-#[derive(Clone, Copy)]
+#[derive(Clone, Copy, PartialEq, Eq)]
 pub enum Phase {
     Rest,
     /// Cards switch snoop on.
@@ -63,7 +64,7 @@ pub struct Update {
 }
 
 /// A loop card.
-#[derive(Clone, Copy)]
+#[derive(Clone, Copy, Default)]
 pub struct Card {
     /// What the card holds in hand, each blank or a cell number: the roots of the collection.
     pub places: [Option<u16>; 8],

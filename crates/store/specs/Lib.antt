@@ -4,3 +4,5 @@ pub mod World
 pub mod Ready
 pub mod Making
 pub mod Restored
+pub mod Reasons
+pub mod Altering

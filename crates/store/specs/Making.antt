@@ -5,8 +5,8 @@ use Rattle.machine.specs.World.{Cell}
 use Rattle.machine.specs.World.{World, fresh}
 use Rattle.store.specs.Ready.{unfit}
 use Rattle.store.specs.declared.plan.Plan.{Plan}
-use Rattle.store.specs.declared.plan.Why.{Why}
-use Rattle.store.specs.declared.plan.Why.TheVariants.{Refused, NoMemory}
+use Rattle.store.specs.declared.why.Why.{Why}
+use Rattle.store.specs.declared.why.Why.TheVariants.{Refused, NoMemory}
 use Rattle.store.specs.declared.plan.NotMade.{NotMade}
 
 -- a refusal is 14 and given just where something does not fit
@@ -23,7 +23,7 @@ pub record Asked (C : Type 0) : Type 0 where
   pub rounds : ℕ
 
 abbrev pub asked : {C : Type 0} → Plan C → Asked C
-asked p = record { cells = p.draft.cells.now; contents = p.draft.contents.now; cards = p.draft.cards; first = p.draft.first; rounds = p.draft.rounds }
+asked p = record { cells = p.cells.now; contents = p.contents.now; cards = p.cards; first = p.first; rounds = p.rounds }
 
 -- the check of what is asked: a plan for just that, or the reason and the tables untouched
 abbrev pub Checked : {C : Type 0} → Asked C → Result (Plan C) (NotMade C) → Type 0

@@ -1,29 +1,13 @@
-use Rattle.std.specs.Prelude.{◌≡◌, ℕ, ◌+◌, ◌*◌, ◌≤◌, cond, List, [], ◌∷◌, reverse, length, take, vec_items, vec_len, vec_capacity, Vec, None, Some}
+use Rattle.std.specs.Prelude.{◌≡◌, ℕ, ◌+◌, ◌*◌, ◌≤◌, Bool, cond, List, [], ◌∷◌, reverse, length, vec_items, vec_len, vec_capacity, Vec, None, Some}
+use Rattle.machine.specs.declared.types.Card.{Card}
 use Rattle.machine.specs.declared.types.Phase.{Phase}
 use Rattle.machine.specs.declared.types.Phase.TheVariants.{Rest, Alert, Log, Gather, Trace, Ease, Sweep, Settle}
 use Rattle.machine.specs.World.{Cell}
-use Rattle.machine.specs.World.{World}
-use Rattle.store.specs.declared.types.Core.{Core}
+use Rattle.store.specs.declared.types.RoundState.{RoundState}
 
 -- a list of numbers with its top at the end, top first
 unfoldable pub stack : {Z : Type 0} → Vec ℕ Z → List ℕ
 stack v = reverse (vec_items v)
-
-abbrev pub model : {C : Type 0} → Core C → World C
-model s = record {
-  cells = s.cells.now;
-  contents = s.contents.now;
-  cards = take s.count s.cards;
-  marked = s.state.marked;
-  free = stack s.free;
-  waiting = stack s.waiting;
-  next = s.state.next;
-  rounds = s.state.rounds;
-  phase = s.state.phase;
-  order = s.state.order;
-  answered = take s.count s.state.answered;
-  sweep = s.state.sweep;
-}
 
 -- 1 of a cell that is free or waiting, else 0: such a cell may stand on one of the two lists
 abbrev pub spare : Cell → ℕ
@@ -67,39 +51,26 @@ sweeping Ease = 0
 sweeping Sweep = 1
 sweeping Settle = 0
 
-abbrev pub Sound : {C : Type 0} → Core C → Type 0
-Sound s =
-    (length s.contents.now ≡ length s.cells.now)
-    × (1 ≤ length s.cells.now)
-    × (length s.cells.now ≤ 4096)
-    × (s.count ≤ 8)
-    × (length s.cards ≡ 8)
-    × (length s.state.answered ≡ 8)
-    × (length s.cells.now ≤ vec_capacity s.free)
-    × (length s.cells.now ≤ vec_capacity s.waiting)
-    × (vec_len s.free + vec_len s.waiting ≤ spares s.cells.now)
-    × (s.state.order ≡ 4 * s.state.rounds + given s.state.phase)
-    × (s.state.rounds + within s.state.phase ≤ 1073741823)
-    × (s.state.sweep + sweeping s.state.phase ≤ length s.cells.now)
+-- What a store asks of its fields, in three parts, short enough for a ghost field each.
+-- tables of one length from 1 to 4,096, and at most eight cards
+abbrev pub Tables : {C : Type 0} → List Cell → List C → List Card → Type 0
+Tables cells contents cards =
+    (length contents ≡ length cells)
+    × (1 ≤ length cells)
+    × (length cells ≤ 4096)
+    × (length cards ≤ 8)
 
--- the same in three parts, short enough for a ghost field each
-abbrev pub Tables : {C : Type 0} → Core C → Type 0
-Tables s =
-    (length s.contents.now ≡ length s.cells.now)
-    × (1 ≤ length s.cells.now)
-    × (length s.cells.now ≤ 4096)
-    × (s.count ≤ 8)
+-- eight answers in memory; each list has room for every cell
+abbrev pub Lists : {Z : Type 0} → List Cell → List Bool → Vec ℕ Z → Vec ℕ Z → Type 0
+Lists cells answered free waiting =
+    (length answered ≡ 8)
+    × (length cells ≤ vec_capacity free)
+    × (length cells ≤ vec_capacity waiting)
 
-abbrev pub Lists : {C : Type 0} → Core C → Type 0
-Lists s =
-    (length s.cards ≡ 8)
-    × (length s.state.answered ≡ 8)
-    × (length s.cells.now ≤ vec_capacity s.free)
-    × (length s.cells.now ≤ vec_capacity s.waiting)
-
-abbrev pub Numbers : {C : Type 0} → Core C → Type 0
-Numbers s =
-    (vec_len s.free + vec_len s.waiting ≤ spares s.cells.now)
-    × (s.state.order ≡ 4 * s.state.rounds + given s.state.phase)
-    × (s.state.rounds + within s.state.phase ≤ 1073741823)
-    × (s.state.sweep + sweeping s.state.phase ≤ length s.cells.now)
+-- no more cells on the lists than may stand there; order, rounds and sweep cell fit the phase
+abbrev pub Numbers : {Z : Type 0} → List Cell → Vec ℕ Z → Vec ℕ Z → RoundState → Type 0
+Numbers cells free waiting state =
+    (vec_len free + vec_len waiting ≤ spares cells)
+    × (state.order ≡ 4 * state.rounds + given state.phase)
+    × (state.rounds + within state.phase ≤ 1073741823)
+    × (state.sweep + sweeping state.phase ≤ length cells)

@@ -1,6 +1,5 @@
 -- Which numbers and tables make a store.
-use Rattle.std.specs.Prelude.{◌≡◌, ℕ, ◌≤◌, Bool, false, not, ◌||◌, length, vec_len, vec_capacity, ◌==◌, nat_lt}
-use Rattle.store.specs.declared.draft.Draft.{Draft}
+use Rattle.std.specs.Prelude.{◌≡◌, ℕ, ◌≤◌, Bool, not, ◌||◌, vec_len, vec_capacity, Vec, ◌==◌, nat_lt}
 
 -- tables not of one length, empty or above 4,096
 abbrev pub bad_tables : (cells contents : ℕ) → Bool
@@ -14,11 +13,10 @@ bad_numbers k first rounds = k == 0 || nat_lt 8 k || first == 0 || first == 4294
 abbrev pub unfit : (cells contents cards first rounds : ℕ) → Bool
 unfit n m k first rounds = bad_tables n m || bad_numbers k first rounds
 
--- what a draft has been found to be
-abbrev pub Ready : {C : Type 0} → Draft C → Type 0
-Ready d =
-    (unfit (length d.cells.now) (length d.contents.now) d.cards d.first d.rounds ≡ false)
-    × (length d.cells.now ≤ vec_capacity d.free)
-    × (length d.cells.now ≤ vec_capacity d.waiting)
-    × (vec_len d.free ≡ 0)
-    × (vec_len d.waiting ≡ 0)
+-- two empty lists with room for n cells each
+abbrev pub RoomFor : {Z : Type 0} → ℕ → Vec ℕ Z → Vec ℕ Z → Type 0
+RoomFor n free waiting =
+    (n ≤ vec_capacity free)
+    × (n ≤ vec_capacity waiting)
+    × (vec_len free ≡ 0)
+    × (vec_len waiting ≡ 0)

@@ -1,7 +1,8 @@
 -- A store that is put together again from its parts: what is asked of them, and what it is then.
-use Rattle.std.specs.Prelude.{◌≡◌, ◌*◌, ◌≤◌, false, [], length, take, replicate, vec_len, vec_capacity}
+use Rattle.std.specs.Prelude.{◌≡◌, ◌*◌, ◌≤◌, false, [], length, replicate, vec_len, vec_capacity}
 use Rattle.machine.specs.declared.types.Colour.TheVariants.{Zero}
 use Rattle.machine.specs.declared.types.Phase.TheVariants.{Rest}
+use Rattle.arrayvec.specs.ArrayVec.{array_vec_len}
 use Rattle.machine.specs.World.{World}
 use Rattle.store.specs.Model.{stack, spares}
 use Rattle.store.specs.declared.stock.Stock.{Stock}
@@ -15,7 +16,7 @@ Fitting s =
 
 -- at most eight cards, and no more rounds than there can be
 abbrev pub Counted : {C : Type 0} → Stock C → Type 0
-Counted s = (s.count ≤ 8) × (length s.cards ≡ 8) × (s.rounds ≤ 1073741823)
+Counted s = (array_vec_len s.cards ≤ 8) × (s.rounds ≤ 1073741823)
 
 -- both lists have room for every cell; nothing waits, and no more cells are listed as free than are free
 abbrev pub Listed : {C : Type 0} → Stock C → Type 0
@@ -30,7 +31,7 @@ abbrev pub restored : {C : Type 0} → Stock C → World C
 restored s = record {
   cells = s.cells.now;
   contents = s.contents.now;
-  cards = take s.count s.cards;
+  cards = s.cards.items;
   marked = Zero;
   free = stack s.free;
   waiting = [];
@@ -38,6 +39,6 @@ restored s = record {
   rounds = s.rounds;
   phase = Rest;
   order = 4 * s.rounds;
-  answered = replicate s.count false;
+  answered = replicate (array_vec_len s.cards) false;
   sweep = 0;
 }

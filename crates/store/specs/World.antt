@@ -3,12 +3,26 @@ use Rattle.std.specs.Prelude.{ℕ, Bool, List, take}
 use Rattle.machine.specs.declared.types.Colour.{Colour}
 use Rattle.machine.specs.declared.types.Phase.{Phase}
 use Rattle.machine.specs.World.{World}
-use Rattle.store.specs.Model.{model}
+use Rattle.arrayvec.specs.ArrayVec.{array_vec_len}
+use Rattle.store.specs.Model.{stack}
 use Rattle.store.specs.declared.types.RoundState.{RoundState}
 use Rattle.store.specs.declared.whole.Store.{Store}
 
 abbrev pub world : {C : Type 0} → Store C → World C
-world s = model s.core
+world s = record {
+  cells = s.cells.now;
+  contents = s.contents.now;
+  cards = s.cards.items;
+  marked = s.state.marked;
+  free = stack s.free;
+  waiting = stack s.waiting;
+  next = s.state.next;
+  rounds = s.state.rounds;
+  phase = s.state.phase;
+  order = s.state.order;
+  answered = take (array_vec_len s.cards) s.state.answered;
+  sweep = s.state.sweep;
+}
 
 -- the plain numbers of a store, as a looker is given them and as the machine has them
 pub record Round : Type 0 where

@@ -1,24 +1,26 @@
 //! The running store: up to 4,096 records in lent tables, up to eight cards, the eight card calls and the seven round calls.
-//! `Store` is what users hold; below it `Core` has the same calls under an invariant that its callers show.
 #![tactic(auto)]
 
 mod calls;
-mod draft;
-mod face;
+mod lists;
 mod making;
 mod marks;
 mod over;
 mod parts;
 mod plan;
+mod records;
 mod restore;
 mod rounds;
 mod stock;
 mod types;
 mod views;
 mod whole;
+mod why;
 
-pub use plan::{NotMade, Plan, Why};
+pub use lists::Lists;
+pub use plan::{NotMade, Plan};
 pub use restore::Restore;
 pub use stock::Stock;
 pub use types::RoundState;
 pub use whole::Store;
+pub use why::Why;

@@ -1,29 +1,21 @@
 //! A store as it is made.
-ghost use Rattle.std.specs.Prelude.{◌≡◌, ℕ, ◌+◌, ◌-◌, ◌*◌, ◌/◌, ◌%◌, ◌^◌, ◌<◌, ◌≤◌, [], length, replicate, vec_len, vec_capacity};
-ghost use Rattle.machine.specs.World.{fresh, count_up, fresh_card};
-ghost use Rattle.store.specs.Model.{model, Sound, stack};
-ghost use Rattle.store.specs.Ready.{Ready, bad_tables, bad_numbers, unfit};
-ghost use Rattle.store.specs.Making.{Checked, asked, made_of};
+ghost use Rattle.std.specs.Prelude.{false, ◌≡◌, ℕ, ◌+◌, ◌-◌, ◌*◌, ◌/◌, ◌%◌, ◌^◌, ◌<◌, ◌≤◌, [], IfOk, IfErr, length, replicate, vec_len, vec_capacity};
+ghost use Rattle.machine.specs.World.{count_up, fresh_card};
+ghost use Rattle.store.specs.Model.{stack};
+ghost use Rattle.store.specs.Ready.{RoomFor, bad_tables, bad_numbers, unfit};
+ghost use Rattle.store.specs.Making.{Checked, Tells, asked, made_of};
 ghost use Rattle.store.specs.World.{world};
 
-use crate::draft::Draft;
+use crate::lists::Lists;
 use crate::parts::{newborn, push};
-use crate::plan::{NotMade, Plan, Why};
-use crate::types::{Core, RoundState};
+use crate::plan::{NotMade, Plan};
+use crate::types::{LAST_ROUND, RoundState};
 use crate::whole::Store;
-use machine::types::{Card, Cell, Colour, Phase};
+use crate::why::Why;
+use arrayvec::ArrayVec;
+use machine::types::{Card, Cell, Colour};
 use refusal::Refusal;
 use std::alloc::Global;
-
-const LAST_ROUND: u32 = 1_073_741_823;
-
-fn clear_cells(cells: &mut [Cell])
-    ensures { cells.new ≡ replicate (length cells.old) None }
-{
-    for cell in cells.iter_mut() {
-        *cell = None;
-    }
-}
 
 fn fresh_card(rounds: u32) -> Card
     requires { rounds ≤ 1073741823 }
@@ -45,8 +37,8 @@ fn fill_free(free: &mut Vec<u16>, n: usize)
     ensures len { vec_len free.new ≡ n - 1 }
     ensures capacity { n ≤ vec_capacity free.new }
 {
-    for k in 0..n - 1 {
-        push(free, (n - 1 - k) as u16);
+    for k in (1..n as u16).rev() {
+        push(free, k);
     }
 }
 
@@ -68,44 +60,22 @@ fn bad_numbers(cards: u8, first: u32, rounds: u32) -> bool
     cards == 0 || cards > 8 || first == 0 || first == u32::MAX || rounds > LAST_ROUND
 }
 
-// Writes the store's beginning into the tables.
-fn build<C: Copy>(draft: Draft<'_, C>, index: C) -> Core<'_, C>
-    requires { Ready draft }
-    ensures made { model result ≡ fresh (length draft.entry.cells.now) draft.entry.contents.now draft.entry.cards draft.entry.first draft.entry.rounds index }
-    ensures sound { Sound result }
+// Memory for the lists of a store over n cells and m contents, where these numbers make one.
+fn lists_for(
+    heap: Global,
+    n: usize,
+    m: usize,
+    cards: u8,
+    first: u32,
+    rounds: u32,
+) -> Result<Lists, Why>
+    ensures made { IfOk result (λ l. (unfit n m cards first rounds ≡ false) × RoomFor n l.free l.waiting) }
+    ensures refused { IfErr result (λ w. Tells w (unfit n m cards first rounds)) }
 {
-    let Draft {
-        cells,
-        contents,
-        cards,
-        first,
-        rounds,
-        mut free,
-        waiting,
-    } = draft;
-    fill_free(&mut free, cells.len());
-    clear_cells(cells);
-    cells[0] = Some(newborn(first, Colour::Zero));
-    contents[0] = index;
-    let card = fresh_card(rounds);
-    let state = RoundState {
-        marked: Colour::Zero,
-        next: first + 1,
-        rounds,
-        phase: Phase::Rest,
-        order: 4 * rounds,
-        answered: [false; 8],
-        sweep: 0,
-    };
-    Core {
-        cells,
-        contents,
-        cards: [card; 8],
-        count: cards as usize,
-        free,
-        waiting,
-        state,
+    if is_unfit(n, m, cards, first, rounds) {
+        return Err(Why::Refused(Refusal::OutOfRange));
     }
+    Ok(Lists::with_room(heap, n)?)
 }
 
 impl<'a, C: Copy> Plan<'a, C> {
@@ -121,47 +91,49 @@ impl<'a, C: Copy> Plan<'a, C> {
     ) -> Result<Plan<'a, C>, NotMade<'a, C>>
         ensures { Checked (record { cells = cells.old; contents = contents.old; cards = cards; first = first; rounds = rounds }) result }
     {
-        if is_unfit(cells.len(), contents.len(), cards, first, rounds) {
-            return Err(NotMade {
-                why: Why::Refused(Refusal::OutOfRange),
-                cells,
-                contents,
-            });
-        }
-        let Ok(free) = Vec::with_capacity(heap, cells.len()) else {
-            return Err(NotMade {
-                why: Why::NoMemory,
-                cells,
-                contents,
-            });
-        };
-        let Ok(waiting) = Vec::with_capacity(heap, cells.len()) else {
-            return Err(NotMade {
-                why: Why::NoMemory,
-                cells,
-                contents,
-            });
-        };
-        Ok(Plan {
-            draft: Draft {
+        match lists_for(heap, cells.len(), contents.len(), cards, first, rounds) {
+            Ok(lists) => Ok(Plan {
                 cells,
                 contents,
                 cards,
                 first,
                 rounds,
-                free,
-                waiting,
-            },
-        })
+                lists,
+            }),
+            Err(why) => Err(NotMade {
+                why,
+                cells,
+                contents,
+            }),
+        }
     }
 
     /// Makes the store, with these contents for its index record. It cannot fail.
     pub fn make(self, index: C) -> Store<'a, C>
         ensures { world result ≡ made_of (asked self.entry) index }
     {
-        let Plan { draft } = self;
+        let Plan {
+            cells,
+            contents,
+            cards,
+            first,
+            rounds,
+            lists,
+        } = self;
+        let Lists { mut free, waiting } = lists;
+        fill_free(&mut free, cells.len());
+        cells.fill(None);
+        cells[0] = Some(newborn(first, Colour::Zero));
+        contents[0] = index;
+        let mut all = ArrayVec::from([fresh_card(rounds); 8]);
+        all.truncate(cards as usize);
         Store {
-            core: build(draft, index),
+            cells,
+            contents,
+            cards: all,
+            free,
+            waiting,
+            state: RoundState::at_rest(first + 1, rounds),
         }
     }
 }

@@ -2,18 +2,18 @@
 ghost use Rattle.std.specs.Prelude.{◌≡◌, ℕ, ◌+◌, ◌-◌, ◌*◌, ◌/◌, ◌%◌, ◌^◌, ◌<◌, ◌≤◌, true, length};
 ghost use Rattle.machine.specs.Waiting.{put_waiting, put_all};
 ghost use Rattle.machine.specs.Rounds.{enter, trace_call};
-ghost use Rattle.store.specs.Model.{model, Sound, given, within, sweeping};
+ghost use Rattle.store.specs.Model.{given, within, sweeping};
+ghost use Rattle.store.specs.World.{world};
 
-use crate::parts::{blacken, greyen, pale, pop, push, view_of};
-use crate::types::Core;
+use crate::parts::{pale, pop, push, view_of};
+use crate::records::{blacken, greyen};
+use crate::whole::Store;
 use machine::types::{Cell, Phase};
 use refusal::Refusal;
 
-impl<C: Copy> Core<'_, C> {
+impl<C: Copy> Store<'_, C> {
     pub(crate) fn put_waiting(&mut self, v: Option<u16>)
-        requires { Sound self.old }
-        ensures does { model self.new ≡ put_waiting (model self.old) v }
-        ensures sound { Sound self.new }
+        ensures { world self.new ≡ put_waiting (world self.old) v }
     {
         let Some(x) = v else {
             return;
@@ -29,29 +29,25 @@ impl<C: Copy> Core<'_, C> {
 
     // Puts the names on the waiting list one after the other, the first first: a card's places, or a record's links.
     pub(crate) fn put_all(&mut self, vs: &[Option<u16>])
-        requires { Sound self.old }
-        ensures does { model self.new ≡ put_all (model self.old) vs.now }
-        ensures sound { Sound self.new }
+        ensures { world self.new ≡ put_all (world self.old) vs.now }
     {
-        for i in 0..vs.len() {
-            self.put_waiting(vs[i]);
+        for v in vs {
+            self.put_waiting(*v);
         }
     }
 
     pub(crate) fn enter(&mut self, p: Phase)
-        requires { (Sound self.old) × ((given p ≡ given self.old.state.phase + 1) × ((within self.old.state.phase ≡ 1) × ((within p ≡ 1) × (sweeping p ≡ 0)))) }
-        ensures does { model self.new ≡ enter (model self.old) p }
-        ensures sound { Sound self.new }
+        requires { ((given p ≡ given self.old.state.phase + 1) × ((within self.old.state.phase ≡ 1) × ((within p ≡ 1) × (sweeping p ≡ 0)))) }
+        ensures { world self.new ≡ enter (world self.old) p }
     {
         self.state.phase = p;
         self.state.order += 1;
         self.state.answered = [false; 8];
     }
 
-    pub(crate) fn trace(&mut self) -> Result<u32, Refusal>
-        requires { Sound self.old }
-        ensures does { (result, model self.new) ≡ trace_call (model self.old) }
-        ensures sound { Sound self.new }
+    /// Marks the first waiting record and puts what it names on the waiting list. Answers its serial, or 0.
+    pub fn trace(&mut self) -> Result<u32, Refusal>
+        ensures { (result, world self.new) ≡ trace_call (world self.old) }
     {
         let Phase::Trace = self.state.phase else {
             return Err(Refusal::WrongPhase);

@@ -2,40 +2,35 @@
 ghost use Rattle.std.specs.Prelude.{◌≡◌, ℕ, ◌+◌, ◌-◌, ◌*◌, ◌/◌, ◌%◌, ◌^◌, ◌<◌, ◌≤◌, true, length, Some};
 ghost use Rattle.machine.specs.Rounds.{obey, ordering, leave_gather, start_sweep, all_of, everyone, answered_by, hear_done};
 ghost use Rattle.machine.specs.Waiting.{put_all, snooped_names};
-ghost use Rattle.store.specs.Model.{model, Sound};
+ghost use Rattle.store.specs.World.{world};
 ghost use Rattle.store.specs.Over.{KnocksBy, AttendsBy, HearsBy};
 
-use crate::parts::{heed, ordering, snooped_name, unsnoop_all};
-use crate::types::Core;
+use crate::parts::{heed_order, idle, ordering, snooped_name, within};
+use crate::records::unsnoop_all;
+use crate::whole::Store;
 use line::Line;
 use machine::types::Phase;
 use refusal::Refusal;
 
-impl<C: Copy> Core<'_, C> {
+impl<C: Copy> Store<'_, C> {
     fn obey(&mut self, c: u8, n: u32)
-        requires { (Sound self.old) × (c < self.old.count) }
-        ensures does { model self.new ≡ obey (model self.old) c n }
-        ensures sound { Sound self.new }
+        requires { c < length (world self.old).cards }
+        ensures { world self.new ≡ obey (world self.old) c n }
     {
         let card = self.cards[c as usize];
-        self.cards[c as usize] = heed(self.state.marked, n, card);
+        heed_order(&mut self.cards, c, self.state.marked, n);
         if n % 4 == 3 {
             self.put_all(&card.places);
         }
     }
 
-    pub(crate) fn attend<L: Line>(&mut self, c: u8, line: &mut L) -> Result<u32, Refusal>
-        requires { Sound self.old }
-        ensures does { AttendsBy L.Line.fetches L.Line.replies c (model self.old) line.old result (model self.new) line.new }
-        ensures sound { Sound self.new }
+    /// Card c fetches an order, obeys it if it is the next one, and replies. Answers the number replied, or 0.
+    pub fn attend<L: Line>(&mut self, c: u8, line: &mut L) -> Result<u32, Refusal>
+        ensures { AttendsBy L.Line.fetches L.Line.replies c (world self.old) line.old result (world self.new) line.new }
     {
-        if c as usize >= self.count {
-            return Err(Refusal::NoCard);
-        }
+        within(c, self.cards.len(), Refusal::NoCard)?;
         let card = self.cards[c as usize];
-        if let Some(_) = card.update {
-            return Err(Refusal::UpdateInHand);
-        }
+        idle(&card)?;
         let Some(n) = line.fetch(c) else {
             return Ok(0);
         };
@@ -51,13 +46,11 @@ impl<C: Copy> Core<'_, C> {
         Ok(n)
     }
 
-    pub(crate) fn knock<L: Line>(&self, c: u8, line: &mut L) -> Result<u32, Refusal>
-        requires { Sound self.now }
-        ensures { KnocksBy L.Line.sends c (model self.now) line.old result line.new }
+    /// Sends card c the order number, and answers it.
+    pub fn knock<L: Line>(&self, c: u8, line: &mut L) -> Result<u32, Refusal>
+        ensures { KnocksBy L.Line.sends c (world self.now) line.old result line.new }
     {
-        if c as usize >= self.count {
-            return Err(Refusal::NoCard);
-        }
+        within(c, self.cards.len(), Refusal::NoCard)?;
         if !ordering(self.state.phase) {
             return Err(Refusal::WrongPhase);
         }
@@ -67,11 +60,10 @@ impl<C: Copy> Core<'_, C> {
     }
 
     fn gather_snooped(&mut self)
-        requires { Sound self.old }
-        ensures does { model self.new ≡ put_all (model self.old) (snooped_names 0 self.old.cells.now) }
-        ensures sound { Sound self.new }
+        ensures { world self.new ≡ put_all (world self.old) (snooped_names 0 self.old.cells.now) }
     {
         let n = self.cells.len() as u16;
+        // kept: each turn writes the table that it walks, so nothing may borrow the table while the loop goes on.
         for i in 0..n {
             let v = snooped_name(self.at(i), i);
             self.put_waiting(v);
@@ -79,9 +71,8 @@ impl<C: Copy> Core<'_, C> {
     }
 
     fn leave_gather(&mut self)
-        requires { (Sound self.old) × (self.old.state.phase ≡ Phase.Gather) }
-        ensures does { model self.new ≡ leave_gather (model self.old) }
-        ensures sound { Sound self.new }
+        requires { self.old.state.phase ≡ Phase.Gather }
+        ensures { world self.new ≡ leave_gather (world self.old) }
     {
         self.gather_snooped();
         unsnoop_all(self.cells);
@@ -89,42 +80,34 @@ impl<C: Copy> Core<'_, C> {
     }
 
     fn all_answered(&self) -> bool
-        requires { Sound self.now }
-        ensures { result ≡ all_of (length (model self.now).cards) (model self.now).answered }
+        ensures { result ≡ all_of (length (world self.now).cards) (world self.now).answered }
     {
-        for i in 0..self.count {
-            if !self.state.answered[i] {
-                return false;
-            }
-        }
-        true
+        self.state.answered[..self.cards.len()].iter().all(|a| *a)
     }
 
     // Card c has answered; whether all have.
     fn answered(&mut self, c: u8) -> bool
-        requires { (Sound self.old) × (c < self.old.count) }
-        ensures does { model self.new ≡ answered_by (model self.old) c }
-        ensures all { result ≡ everyone (model self.new) }
-        ensures sound { Sound self.new }
+        requires { c < length (world self.old).cards }
+        ensures does { world self.new ≡ answered_by (world self.old) c }
+        ensures all { result ≡ everyone (world self.new) }
     {
         self.state.answered[c as usize] = true;
         self.all_answered()
     }
 
     fn start_sweep(&mut self)
-        requires { (Sound self.old) × (self.old.state.phase ≡ Phase.Ease) }
-        ensures does { model self.new ≡ start_sweep (model self.old) }
-        ensures sound { Sound self.new }
+        requires { self.old.state.phase ≡ Phase.Ease }
+        ensures { world self.new ≡ start_sweep (world self.old) }
     {
         self.state.phase = Phase::Sweep;
         self.state.sweep = 0;
     }
 
     // The collector's step on a reply of card c: the phase and whether the reply is to the order of now decide together.
+    // kept: the rules of the project name this form, the collector's own phase matched together with the reply's number.
     fn step(&mut self, c: u8, n: u32)
-        requires { (Sound self.old) × ((c < self.old.count) × (ordering self.old.state.phase ≡ true)) }
-        ensures does { model self.new ≡ hear_done (model self.old) c (Some n) }
-        ensures sound { Sound self.new }
+        requires { (c < length (world self.old).cards) × (ordering self.old.state.phase ≡ true) }
+        ensures { world self.new ≡ hear_done (world self.old) c (Some n) }
     {
         match (self.state.phase, n == self.state.order) {
             (Phase::Alert, true) => {
@@ -151,14 +134,11 @@ impl<C: Copy> Core<'_, C> {
         }
     }
 
-    pub(crate) fn hear<L: Line>(&mut self, c: u8, line: &mut L) -> Result<u32, Refusal>
-        requires { Sound self.old }
-        ensures does { HearsBy L.Line.collects c (model self.old) line.old result (model self.new) line.new }
-        ensures sound { Sound self.new }
+    /// Collects a reply of card c; when the last card has answered, the phase moves on. Answers the number, or 0.
+    pub fn hear<L: Line>(&mut self, c: u8, line: &mut L) -> Result<u32, Refusal>
+        ensures { HearsBy L.Line.collects c (world self.old) line.old result (world self.new) line.new }
     {
-        if c as usize >= self.count {
-            return Err(Refusal::NoCard);
-        }
+        within(c, self.cards.len(), Refusal::NoCard)?;
         if !ordering(self.state.phase) {
             return Err(Refusal::WrongPhase);
         }

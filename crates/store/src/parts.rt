@@ -1,42 +1,63 @@
 //! Records, cards and cells, one at a time.
-ghost use Rattle.std.specs.Prelude.{◌≡◌, ℕ, ◌+◌, ◌-◌, ◌*◌, ◌/◌, ◌%◌, ◌^◌, ◌<◌, ◌≤◌, true, false, [], ◌∷◌, ◌++◌, length, if◌then◌else◌, Some, None, vec_len, vec_capacity, MatchOption, nat_le, slice_index_or, slice_set};
-ghost use Rattle.std.specs.List.{slice_get};
+ghost use Rattle.std.specs.Prelude.{◌≡◌, ℕ, ◌+◌, ◌-◌, ◌*◌, ◌/◌, ◌%◌, ◌^◌, ◌<◌, ◌≤◌, true, false, [], ◌∷◌, ◌++◌, length, if◌then◌else◌, Some, None, vec_len, vec_capacity, MatchOption, IfErr, OnOk, is_some, nat_le, slice_index_or, slice_set};
 ghost use Rattle.std.specs.Option.{option_to_list};
-ghost use Rattle.machine.specs.World.{view_of, see, unsnoop, set_place, set_update, set_link, log_by, snoopen, newborn, empty_links, alter_at, alter_all, alter, unlog, greyen, blacken, other, same_colour};
+ghost use Rattle.arrayvec.specs.ArrayVec.{array_vec_len};
+ghost use Rattle.machine.specs.World.{view_of, see, unsnoop, set_place, set_update, alter_card, set_link, log_by, snoopen, newborn, empty_links, alter_at, alter_all, alter, unlog, greyen, blacken, other, same_colour};
 ghost use Rattle.machine.specs.Waiting.{pale, name_if};
 ghost use Rattle.machine.specs.Cards.{noted, snoop_on};
 ghost use Rattle.machine.specs.Rounds.{heed, ordering};
 ghost use Rattle.store.specs.Model.{stack, spares, given, within, sweeping};
 
+use arrayvec::ArrayVec;
 use machine::types::{Card, Cell, Colour, Phase, Record, Stage, Update};
+use refusal::Refusal;
 
-pub(crate) fn link_of(r: Record, i: u8) -> Option<u16>
-    requires { i < 4 }
-    ensures { result ≡ slice_index_or r.links i None }
+// A number that is not below count is refused.
+pub(crate) fn within(n: u8, count: usize, refusal: Refusal) -> Result<(), Refusal>
+    ensures inside { OnOk result (n < count) }
+    ensures outside { IfErr result (λ r. (r ≡ refusal) × (count ≤ n)) }
 {
-    r.links[i as usize]
+    if (n as usize) < count {
+        Ok(())
+    } else {
+        Err(refusal)
+    }
 }
 
-pub(crate) fn place_of(k: Card, p: u8) -> Option<u16>
-    requires { p < 8 }
-    ensures { result ≡ slice_index_or k.places p None }
+// A card that has an update in hand is refused what it must not do meanwhile.
+pub(crate) fn idle(card: &Card) -> Result<(), Refusal>
+    ensures idle { OnOk result (is_some card.now.update ≡ false) }
+    ensures busy { IfErr result (λ r. (r ≡ Refusal.UpdateInHand) × (is_some card.now.update ≡ true)) }
 {
-    k.places[p as usize]
+    match card.update {
+        None => Ok(()),
+        Some(_) => Err(Refusal::UpdateInHand),
+    }
 }
 
-pub(crate) fn with_place(k: Card, p: u8, v: Option<u16>) -> Card
-    requires { p < 8 }
-    ensures { result ≡ set_place p v k }
+pub(crate) fn heed_order(cards: &mut ArrayVec<Card, 8>, c: u8, m: Colour, n: u32)
+    requires { c < array_vec_len cards.old }
+    ensures does { cards.new.items ≡ alter_card cards.old.items c (heed m n) }
+    ensures len { array_vec_len cards.new ≡ array_vec_len cards.old }
 {
-    let mut r = k;
-    r.places[p as usize] = v;
-    r
+    let card = heed(m, n, cards[c as usize]);
+    cards[c as usize] = card;
 }
 
-pub(crate) fn with_update(k: Card, u: Option<Update>) -> Card
-    ensures { result ≡ set_update u k }
+pub(crate) fn set_place(cards: &mut ArrayVec<Card, 8>, c: u8, p: u8, v: Option<u16>)
+    requires { (c < array_vec_len cards.old) × (p < 8) }
+    ensures does { cards.new.items ≡ alter_card cards.old.items c (set_place p v) }
+    ensures len { array_vec_len cards.new ≡ array_vec_len cards.old }
 {
-    Card { update: u, ..k }
+    cards[c as usize].places[p as usize] = v;
+}
+
+pub(crate) fn set_update(cards: &mut ArrayVec<Card, 8>, c: u8, u: Option<Update>)
+    requires { c < array_vec_len cards.old }
+    ensures does { cards.new.items ≡ alter_card cards.old.items c (set_update u) }
+    ensures len { array_vec_len cards.new ≡ array_vec_len cards.old }
+{
+    cards[c as usize].update = u;
 }
 
 pub(crate) fn noted(u: Update) -> Update
@@ -73,30 +94,7 @@ pub(crate) fn other(m: Colour) -> Colour
 pub(crate) fn pale(m: Colour, cell: Cell) -> bool
     ensures { result ≡ pale m cell }
 {
-    match cell {
-        None => false,
-        Some(r) => !(r.colour == m || r.waiting),
-    }
-}
-
-fn relink_record(r: &mut Record, i: u8, v: Option<u16>)
-    ensures { r.new ≡ set_link i v r.old }
-{
-    put(&mut r.links, i as usize, v);
-}
-
-fn log_record(r: &mut Record, d: Option<[Option<u16>; 4]>)
-    ensures { r.new ≡ log_by d r.old }
-{
-    if r.log.is_none() {
-        r.log = d;
-    }
-}
-
-pub(crate) fn content_at<C: Copy>(s: &[C], i: usize) -> Option<C>
-    ensures { result ≡ slice_get s.now i }
-{
-    if i < s.len() { Some(s[i]) } else { None }
+    cell.is_some_and(|r| !(r.colour == m || r.waiting))
 }
 
 /// Past the end nothing is written.
@@ -105,82 +103,6 @@ pub(crate) fn put<T: Copy>(s: &mut [T], i: usize, x: T)
 {
     if i < s.len() {
         s[i] = x;
-    }
-}
-
-pub(crate) fn relink(cells: &mut [Cell], x: u16, i: u8, v: Option<u16>)
-    ensures does { cells.new ≡ alter_at cells.old x (set_link i v) }
-    ensures room { spares cells.new ≡ spares cells.old }
-{
-    let at = x as usize;
-    if at < cells.len() {
-        if let Some(r) = &mut cells[at] {
-            relink_record(r, i, v);
-        }
-    }
-}
-
-pub(crate) fn log(cells: &mut [Cell], x: u16, d: Option<[Option<u16>; 4]>)
-    ensures does { cells.new ≡ alter_at cells.old x (log_by d) }
-    ensures room { spares cells.new ≡ spares cells.old }
-{
-    let at = x as usize;
-    if at < cells.len() {
-        if let Some(r) = &mut cells[at] {
-            log_record(r, d);
-        }
-    }
-}
-
-fn snoop(cells: &mut [Cell], x: u16)
-    ensures does { cells.new ≡ alter_at cells.old x snoopen }
-    ensures room { spares cells.new ≡ spares cells.old }
-{
-    let at = x as usize;
-    if at < cells.len() {
-        if let Some(r) = &mut cells[at] {
-            r.snooped = true;
-        }
-    }
-}
-
-pub(crate) fn snoop_on(cells: &mut [Cell], on: bool, v: Option<u16>)
-    ensures does { cells.new ≡ snoop_on on cells.old v }
-    ensures room { spares cells.new ≡ spares cells.old }
-{
-    if !on {
-        return;
-    }
-    let Some(x) = v else {
-        return;
-    };
-    snoop(cells, x);
-}
-
-pub(crate) fn greyen(cells: &mut [Cell], x: u16, m: Colour)
-    requires { pale m (slice_index_or cells.old x None) ≡ true }
-    ensures does { cells.new ≡ alter_at cells.old x greyen }
-    ensures room { spares cells.new ≡ spares cells.old + 1 }
-    ensures most { spares cells.new ≤ length cells.new }
-{
-    let at = x as usize;
-    if at < cells.len() {
-        if let Some(r) = &mut cells[at] {
-            r.waiting = true;
-        }
-    }
-}
-
-pub(crate) fn blacken(cells: &mut [Cell], x: u16, m: Colour)
-    ensures does { cells.new ≡ alter_at cells.old x (blacken m) }
-    ensures room { spares cells.old ≤ spares cells.new + 1 }
-{
-    let at = x as usize;
-    if at < cells.len() {
-        if let Some(r) = &mut cells[at] {
-            r.colour = m;
-            r.waiting = false;
-        }
     }
 }
 
@@ -196,85 +118,38 @@ pub(crate) fn after_sweep(n: usize, x: u16) -> Phase
     }
 }
 
-fn unlog_cell(cell: &mut Cell)
-    ensures { cell.new ≡ alter unlog cell.old }
-{
-    if let Some(r) = cell {
-        r.log = None;
-    }
-}
-
-pub(crate) fn unlog_all(cells: &mut [Cell])
-    ensures does { cells.new ≡ alter_all cells.old unlog }
-    ensures room { spares cells.new ≡ spares cells.old }
-{
-    for cell in cells.iter_mut() {
-        unlog_cell(cell);
-    }
-}
-
-fn unsnoop_cell(cell: &mut Cell)
-    ensures { cell.new ≡ alter unsnoop cell.old }
-{
-    if let Some(r) = cell {
-        r.snooped = false;
-    }
-}
-
-pub(crate) fn unsnoop_all(cells: &mut [Cell])
-    ensures does { cells.new ≡ alter_all cells.old unsnoop }
-    ensures room { spares cells.new ≡ spares cells.old }
-{
-    for cell in cells.iter_mut() {
-        unsnoop_cell(cell);
-    }
-}
-
 pub(crate) fn snooped_name(cell: Cell, x: u16) -> Option<u16>
     ensures { result ≡ name_if (see (λ r. r.snooped) false cell) x }
 {
-    match cell {
-        None => None,
-        Some(r) => if r.snooped { Some(x) } else { None },
-    }
+    cell.filter(|r| r.snooped).map(|_| x)
 }
 
 pub(crate) fn ordering(p: Phase) -> bool
     ensures { result ≡ ordering p }
 {
-    match p {
-        Phase::Alert | Phase::Log | Phase::Gather | Phase::Ease => true,
-        Phase::Rest | Phase::Trace | Phase::Sweep | Phase::Settle => false,
-    }
+    matches!(p, Phase::Alert | Phase::Log | Phase::Gather | Phase::Ease)
 }
 
 pub(crate) fn view_of(r: Record) -> [Option<u16>; 4]
     ensures { result ≡ view_of r }
 {
-    match r.log {
-        None => r.links,
-        Some(l) => l,
-    }
+    r.log.unwrap_or(r.links)
 }
 
-pub(crate) fn heed(m: Colour, n: u32, k: Card) -> Card
+fn heed(m: Colour, n: u32, k: Card) -> Card
     ensures { result ≡ heed m n k }
 {
     let r = n % 4;
     Card {
-        snoop: if r == 1 {
-            true
-        } else if r == 3 {
-            false
-        } else {
-            k.snoop
+        snoop: match r {
+            1 => true,
+            3 => false,
+            _ => k.snoop,
         },
-        logging: if r == 2 {
-            true
-        } else if r == 0 {
-            false
-        } else {
-            k.logging
+        logging: match r {
+            2 => true,
+            0 => false,
+            _ => k.logging,
         },
         birth: if r == 3 { m } else { k.birth },
         last: n,

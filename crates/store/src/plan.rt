@@ -1,24 +1,22 @@
 //! What a making is handed, and why one fails.
-ghost use Rattle.store.specs.Ready.{Ready};
+ghost use Rattle.std.specs.Prelude.{◌≡◌, false, length};
+ghost use Rattle.store.specs.Ready.{unfit, RoomFor};
 
-use crate::draft::Draft;
+use crate::lists::Lists;
+use crate::why::Why;
 use machine::types::Cell;
-use refusal::Refusal;
 
 /// A store that can be made: everything was found right, memory is at hand, and nothing is written yet.
 #[derive(Drop)]
 pub struct Plan<'a, C> {
-    pub(crate) draft: Draft<'a, C>,
-    ghost ready: { Ready draft },
-}
-
-/// Why a store is not made.
-#[derive(Clone, Copy)]
-pub enum Why {
-    /// A number or a table is out of range.
-    Refused(Refusal),
-    /// There is no memory for the two lists. No call of a store that was made can fail for this.
-    NoMemory,
+    pub(crate) cells: &'a mut [Cell],
+    pub(crate) contents: &'a mut [C],
+    pub(crate) cards: u8,
+    pub(crate) first: u32,
+    pub(crate) rounds: u32,
+    pub(crate) lists: Lists,
+    ghost fit: { unfit (length cells.now) (length contents.now) cards first rounds ≡ false },
+    ghost room: { RoomFor (length cells.now) lists.free lists.waiting },
 }
 
 /// No store is made: why, and the tables, handed back as they were.

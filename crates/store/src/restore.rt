@@ -4,9 +4,8 @@ ghost use Rattle.store.specs.Restored.{Fitting, Counted, Listed, restored};
 ghost use Rattle.store.specs.World.{world};
 
 use crate::stock::Stock;
-use crate::types::{Core, RoundState};
+use crate::types::RoundState;
 use crate::whole::Store;
-use machine::types::{Colour, Phase};
 
 /// Parts that make a store: what a store asks of them is held in the type, so that putting them together cannot fail.
 #[derive(Drop)]
@@ -27,31 +26,18 @@ impl<'a, C: Copy> Restore<'a, C> {
             cells,
             contents,
             cards,
-            count,
             free,
             waiting,
             next,
             rounds,
         } = stock;
-        let state = RoundState {
-            marked: Colour::Zero,
-            next,
-            rounds,
-            phase: Phase::Rest,
-            order: 4 * rounds,
-            answered: [false; 8],
-            sweep: 0,
-        };
         Store {
-            core: Core {
-                cells,
-                contents,
-                cards,
-                count,
-                free,
-                waiting,
-                state,
-            },
+            cells,
+            contents,
+            cards,
+            free,
+            waiting,
+            state: RoundState::at_rest(next, rounds),
         }
     }
 }

@@ -1,23 +1,25 @@
+//! The calls of a round that go over no line.
 ghost use Rattle.std.specs.Prelude.{◌≡◌, ℕ, ◌+◌, ◌-◌, ◌*◌, ◌/◌, ◌%◌, ◌^◌, ◌<◌, ◌≤◌, true, length, Some, None};
 ghost use Rattle.machine.specs.World.{at};
 ghost use Rattle.machine.specs.Rounds.{open_call, sweep_call, settle_call};
-ghost use Rattle.store.specs.Model.{model, Sound};
+ghost use Rattle.store.specs.World.{world};
 
-use crate::parts::{after_sweep, other, pale, push, unlog_all};
-use crate::types::Core;
+use crate::parts::{after_sweep, other, pale, push};
+use crate::records::unlog_all;
+use crate::types::LAST_ROUND;
+use crate::whole::Store;
 use machine::types::{Cell, Phase};
 use refusal::Refusal;
 
-impl<C: Copy> Core<'_, C> {
-    pub(crate) fn open(&mut self) -> Result<u32, Refusal>
-        requires { Sound self.old }
-        ensures does { (result, model self.new) ≡ open_call (model self.old) }
-        ensures sound { Sound self.new }
+impl<C: Copy> Store<'_, C> {
+    /// Opens a round. Answers the order number.
+    pub fn open(&mut self) -> Result<u32, Refusal>
+        ensures { (result, world self.new) ≡ open_call (world self.old) }
     {
         let Phase::Rest = self.state.phase else {
             return Err(Refusal::WrongPhase);
         };
-        if self.state.rounds == 1073741823 {
+        if self.state.rounds == LAST_ROUND {
             return Err(Refusal::Exhausted);
         }
         self.state.marked = other(self.state.marked);
@@ -27,10 +29,9 @@ impl<C: Copy> Core<'_, C> {
         Ok(self.state.order)
     }
 
-    pub(crate) fn sweep(&mut self) -> Result<u32, Refusal>
-        requires { Sound self.old }
-        ensures does { (result, model self.new) ≡ sweep_call (model self.old) }
-        ensures sound { Sound self.new }
+    /// Frees the record in the sweep cell unless it is marked or waiting. Answers its serial, or 0.
+    pub fn sweep(&mut self) -> Result<u32, Refusal>
+        ensures { (result, world self.new) ≡ sweep_call (world self.old) }
     {
         let Phase::Sweep = self.state.phase else {
             return Err(Refusal::WrongPhase);
@@ -51,10 +52,9 @@ impl<C: Copy> Core<'_, C> {
         Ok(r.serial)
     }
 
-    pub(crate) fn settle(&mut self) -> Result<u32, Refusal>
-        requires { Sound self.old }
-        ensures does { (result, model self.new) ≡ settle_call (model self.old) }
-        ensures sound { Sound self.new }
+    /// Closes the round. Answers 0.
+    pub fn settle(&mut self) -> Result<u32, Refusal>
+        ensures { (result, world self.new) ≡ settle_call (world self.old) }
     {
         let Phase::Settle = self.state.phase else {
             return Err(Refusal::WrongPhase);

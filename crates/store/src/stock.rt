@@ -1,3 +1,4 @@
+use arrayvec::ArrayVec;
 use machine::types::{Card, Cell};
 
 /// The parts of a store that is put together again: its tables are filled, its cards and its free list are known.
@@ -5,8 +6,7 @@ use machine::types::{Card, Cell};
 pub struct Stock<'a, C> {
     pub cells: &'a mut [Cell],
     pub contents: &'a mut [C],
-    pub cards: [Card; 8],
-    pub count: usize,
+    pub cards: ArrayVec<Card, 8>,
     pub free: Vec<u16>,
     pub waiting: Vec<u16>,
     pub next: u32,

@@ -1,4 +1,6 @@
-use machine::types::{Card, Cell, Colour, Phase};
+ghost use Rattle.std.specs.Prelude.{◌≡◌, ◌*◌, ◌≤◌, false, replicate};
+
+use machine::types::{Colour, Phase};
 
 /// The plain numbers of a store.
 #[derive(Clone, Copy)]
@@ -8,17 +10,28 @@ pub struct RoundState {
     pub rounds: u32,
     pub phase: Phase,
     pub order: u32,
+    // kept: always eight, one for each card that a store may have; those of cards that it has not are never read.
     pub answered: [bool; 8],
     pub sweep: u16,
 }
 
-#[derive(Drop)]
-pub(crate) struct Core<'a, C> {
-    pub cells: &'a mut [Cell],
-    pub contents: &'a mut [C],
-    pub cards: [Card; 8],
-    pub count: usize,
-    pub free: Vec<u16>,
-    pub waiting: Vec<u16>,
-    pub state: RoundState,
+impl RoundState {
+    /// At rest, with nothing marked and nothing swept.
+    pub(crate) fn at_rest(next: u32, rounds: u32) -> RoundState
+        requires { rounds ≤ 1073741823 }
+        ensures { result ≡ record { marked = Colour.Zero; next = next; rounds = rounds; phase = Phase.Rest; order = 4 * rounds; answered = replicate 8 false; sweep = 0 } }
+    {
+        RoundState {
+            marked: Colour::Zero,
+            next,
+            rounds,
+            phase: Phase::Rest,
+            order: 4 * rounds,
+            answered: [false; 8],
+            sweep: 0,
+        }
+    }
 }
+
+/// The rounds of a store are counted up to this one.
+pub(crate) const LAST_ROUND: u32 = 1_073_741_823;

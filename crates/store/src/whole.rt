@@ -2,13 +2,21 @@
 ghost use Rattle.std.specs.Prelude.{◌≡◌};
 ghost use Rattle.store.specs.Model.{Tables, Lists, Numbers};
 
-use crate::types::Core;
+use crate::types::RoundState;
+use arrayvec::ArrayVec;
+use machine::types::{Card, Cell};
 
 /// A store of up to 4,096 records over tables that are lent to it, for any contents that can be copied.
 #[derive(Drop)]
 pub struct Store<'a, C> {
-    pub(crate) core: Core<'a, C>,
-    ghost tables: { Tables core },
-    ghost lists: { Lists core },
-    ghost numbers: { Numbers core },
+    // kept: the tables are lent, one for the records and one for contents of any type, and records name cells by number.
+    pub(crate) cells: &'a mut [Cell],
+    pub(crate) contents: &'a mut [C],
+    pub(crate) cards: ArrayVec<Card, 8>,
+    pub(crate) free: Vec<u16>,
+    pub(crate) waiting: Vec<u16>,
+    pub(crate) state: RoundState,
+    ghost tables: { Tables cells.now contents.now cards.items },
+    ghost lists: { Lists cells.now state.answered free waiting },
+    ghost numbers: { Numbers cells.now free waiting state },
 }

@@ -1,4 +1,5 @@
 use Rattle.std.proofs.Common.{◌≡◌, ◌≤◌, false, [], take, replicate, rules}
+use Rattle.arrayvec.specs.ArrayVec.{array_vec_len}
 use Rattle.store.specs.Model.{stack}
 use Rattle.store.proofs.Made.{take_same}
 use Rattle.store.proofs.Stacks.{stack_none}
@@ -7,7 +8,7 @@ use Rattle.store.proofs.restore.Restore.make.Goals as goal
 pub returns : goal.returns
 returns g c =
     let s = c.args.self.stock in
-    let few : s.count ≤ 8 = search rules in
+    let few : array_vec_len s.cards ≤ 8 = search rules in
     let t : stack s.waiting ≡ [] = stack_none s.waiting (search rules) in
-    let a : take s.count (replicate 8 false) ≡ replicate s.count false = take_same s.count 8 false few in
+    let a : take (array_vec_len s.cards) (replicate 8 false) ≡ replicate (array_vec_len s.cards) false = take_same (array_vec_len s.cards) 8 false few in
     search (rules, t, a)

@@ -1,6 +1,0 @@
-use Rattle.std.proofs.Common.{rules}
-use Rattle.store.proofs.Cards.{read_four}
-use Rattle.store.proofs.types.Core.read_links.Goals as goal
-
-pub returns : goal.returns
-returns g c = search (rules, read_four)
