@@ -1,4 +1,4 @@
-use refusal::Refusal;
+use std::fmt::Display;
 
 /// Where answers are printed, and how: a line to each, or told as a story.
 #[derive(Clone, Copy)]
@@ -9,35 +9,32 @@ pub struct Desk<'a> {
 
 impl Desk<'_> {
     // What stands before an answer.
-    pub(crate) fn lead(&self) -> &'static str {
+    fn lead(&self) -> &'static str {
         if self.story { "    " } else { "" }
     }
 
-    // The words of a call, before its answer: each call has a line of its own, but in a story those of one sentence have one.
-    pub(crate) fn begin_call(&self, first: bool, words: &str) -> anyhow::Result<()> {
-        if first {
-            let lead = self.lead();
-            print!(self.rt; "{lead}")?;
-        } else if self.story {
-            print!(self.rt; "; ")?;
-        } else {
-            println!(self.rt; "")?;
-        }
-        print!(self.rt; "{words} -> ")?;
+    // What stands before the words of a call that is not the first: each call has a line of its own, but in a story those
+    // of one sentence have one.
+    fn parting(&self) -> &'static str {
+        if self.story { "; " } else { "\n" }
+    }
+
+    // A call and its answer, the first of several or a later one.
+    pub(crate) fn answer_call<T: Display + Drop>(
+        &self,
+        first: bool,
+        words: &str,
+        answer: T,
+    ) -> anyhow::Result<()> {
+        let before = if first { self.lead() } else { self.parting() };
+        print!(self.rt; "{before}{words} -> {answer}")?;
         Ok(())
     }
 
     // The words of a line and what is answered to it.
-    pub(crate) fn answer(&self, words: &str, answer: &str) -> anyhow::Result<()> {
+    pub(crate) fn answer<T: Display + Drop>(&self, words: &str, answer: T) -> anyhow::Result<()> {
         let lead = self.lead();
         println!(self.rt; "{lead}{words} -> {answer}")?;
-        Ok(())
-    }
-
-    pub(crate) fn refuse(&self, words: &str, refusal: Refusal) -> anyhow::Result<()> {
-        let lead = self.lead();
-        let number = refusal.number();
-        println!(self.rt; "{lead}{words} -> refused {number}")?;
         Ok(())
     }
 }
