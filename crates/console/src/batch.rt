@@ -1,6 +1,7 @@
 //! Calls that are collected and then played together.
 use crate::player::Player;
 use crate::told::Told;
+use crate::unheard::Unheard;
 use machine::types::{Answer, Call, Given};
 use std::alloc::Global;
 use std::fmt;
@@ -24,8 +25,8 @@ impl<C: Told> fmt::Display for Shown<'_, C> {
             Ok(Given::Number(number)) => write!(f, "{number}"),
             Ok(Given::Contents(serial, x)) => write!(f, "{serial} {x}"),
             Err(refusal) => {
-                let number = refusal.number();
-                write!(f, "refused {number}")
+                let refused = Unheard::from(*refusal);
+                write!(f, "{refused}")
             }
         }
     }

@@ -61,7 +61,7 @@ impl From<AllocError> for Unmade {
 impl From<Why> for Unmade {
     fn from(why: Why) -> Unmade {
         match why {
-            Why::Refused(refusal) => Unmade::Unheard(Unheard::Refused(refusal)),
+            Why::Refused(refusal) => Unmade::Unheard(Unheard::from(refusal)),
             Why::NoMemory => Unmade::Failed(no_memory()),
         }
     }
@@ -86,7 +86,7 @@ impl<C: Told> Tables<C> {
     fn said(heap: Global, size: Size, words: &[&str]) -> Result<Self, Unmade> {
         let index = C::said(words)?;
         if size.cells > MOST_CELLS {
-            return Err(Unmade::Unheard(Unheard::Refused(Refusal::OutOfRange)));
+            return Err(Unmade::from(Unheard::from(Refusal::OutOfRange)));
         }
         let mut tables = Tables {
             cells: vec![in heap; None; size.cells]?,
@@ -123,13 +123,13 @@ impl<C: Told> Tables<C> {
 // The store that the words want, if it can be made.
 pub(crate) fn wanted_said(heap: Global, words: &[&str]) -> Result<Wanted, Unmade> {
     let ["make", kind, cells, cards, first, rounds, rest @ ..] = words else {
-        return Err(Unmade::Unheard(Unheard::Unknown));
+        return Err(Unmade::from(Unheard::Unknown));
     };
     let size = size_said(cells, cards, first, rounds)?;
     match *kind {
         "events" => Ok(Wanted::Events(Tables::said(heap, size, rest)?)),
         "effects" => Ok(Wanted::Effects(Tables::said(heap, size, rest)?)),
-        _ => Err(Unmade::Unheard(Unheard::Unknown)),
+        _ => Err(Unmade::from(Unheard::Unknown)),
     }
 }
 

@@ -144,16 +144,8 @@ impl Display for Shown<Record> {
 pub(crate) fn show_store<C: Copy>(rt: &HostRuntime, store: &Store<'_, C>) -> anyhow::Result<()> {
     show_round(rt, store.round(), store.cards().len())?;
     let most = store.cells().len();
-    let free: Vec<u16> = (0..most)
-        .map_while(|i| store.free_cell(i))
-        .collect(rt.alloc())?;
-    let free = Listed(free.as_slice());
-    println!(rt; "free {free}")?;
-    let waiting: Vec<u16> = (0..most)
-        .map_while(|i| store.waiting_cell(i))
-        .collect(rt.alloc())?;
-    let waiting = Listed(waiting.as_slice());
-    println!(rt; "waiting {waiting}")?;
+    show_list(rt, "free", most, |i| store.free_cell(i))?;
+    show_list(rt, "waiting", most, |i| store.waiting_cell(i))?;
     for (number, card) in store.cards().iter().enumerate() {
         let card = Shown(*card);
         println!(rt; "card {number} {card}")?;
@@ -182,5 +174,20 @@ fn show_round(rt: &HostRuntime, round: RoundState, cards: usize) -> anyhow::Resu
     println!(rt;
         "phase {phase} order {order} rounds {rounds} marked {marked} next {next} sweep {sweep} answered {answered}"
     )?;
+    Ok(())
+}
+
+// Prints a list of at most so many cells, of which `cell_at` gives each by its place in the list.
+fn show_list<F: Fn(usize) -> Option<u16>>(
+    rt: &HostRuntime,
+    name: &str,
+    most: usize,
+    cell_at: F,
+) -> anyhow::Result<()>
+    requires { (state : F) (i : _) → F.pre state i }
+{
+    let cells: Vec<u16> = (0..most).map_while(cell_at).collect(rt.alloc())?;
+    let cells = Listed(cells.as_slice());
+    println!(rt; "{name} {cells}")?;
     Ok(())
 }

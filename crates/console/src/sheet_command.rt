@@ -41,6 +41,7 @@ impl From<Fault> for Unused {
 pub(crate) fn run_sheet(rt: &HostRuntime) -> anyhow::Result<()> {
     let mut values = Vec::new(rt.alloc());
     let mut lines = Lines::new(rt)?;
+    // kept: the library's iterators over lines hold a whole line, however long it is; `next_line` holds 401 bytes
     for _ in 0..u64::MAX {
         let Some((number, line)) = lines.next_line()? else {
             break;
@@ -129,7 +130,8 @@ fn sealed<'a>(
     values: &[Value],
 ) -> Result<(Block<'a>, u32), Refusal> {
     seal_values(bytes, number, values)?;
-    let check = u32::from_le_bytes([bytes[508], bytes[509], bytes[510], bytes[511]]);
+    let [.., a, b, c, d] = *bytes;
+    let check = u32::from_le_bytes([a, b, c, d]);
     Ok((open_block(bytes)?, check))
 }
 
@@ -137,6 +139,7 @@ fn tell_block(rt: &HostRuntime, (block, check): (Block<'_>, u32)) -> anyhow::Res
     let number = block.number;
     let count = block.count;
     println!(rt; "block {number}: values {count}, check {check}")?;
+    // kept: the library reads a value of a block by its number, so a range is the plainest iterator there is
     for k in 0..usize::from(count) {
         match value_at(block.body, k) {
             Some(value) => println!(rt; "  {k} {value}")?,

@@ -4,11 +4,9 @@ use contents::{Effect, Event};
 use sheet::{effect_said, event_said, number_in};
 use std::fmt;
 
-pub trait Told: Copy + fmt::Display {
+pub trait Told: Sized + Copy + fmt::Display {
     /// The value that words say.
-    fn said(words: &[&str]) -> Result<Self, Unheard>
-    where
-        Self: Sized;
+    fn said(words: &[&str]) -> Result<Self, Unheard>;
 }
 
 impl Told for Event {

@@ -27,6 +27,7 @@ impl Wire {
         store: &mut Store<'_, C>,
         calls: &[Call<C>],
     ) -> Result<Vec<Answer<C>>, AllocError> {
+        // kept: `play` is generic over the line, and a `dyn Line` could not carry the facts that its contract states
         match self {
             Wire::Straight(line) => play(heap, store, line, calls),
             Wire::Lossy(line) => play(heap, store, line, calls),
