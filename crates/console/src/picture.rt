@@ -1,5 +1,5 @@
 //! The whole store as text.
-use machine::types::{Card, Colour, Phase, Record, Stage, Update};
+use machine::types::{Card, Record, Stage, Update};
 use std::fmt;
 use std::fmt::Display;
 use store::{RoundState, Store};
@@ -50,30 +50,6 @@ impl Display for Links {
 #[derive(Clone, Copy)]
 struct Shown<T>(T);
 
-impl Display for Shown<Phase> {
-    fn fmt<W: fmt::Write>(&self, f: &mut fmt::Formatter<W>) -> fmt::Result {
-        match self.0 {
-            Phase::Rest => write!(f, "Rest"),
-            Phase::Alert => write!(f, "Alert"),
-            Phase::Log => write!(f, "Log"),
-            Phase::Gather => write!(f, "Gather"),
-            Phase::Trace => write!(f, "Trace"),
-            Phase::Ease => write!(f, "Ease"),
-            Phase::Sweep => write!(f, "Sweep"),
-            Phase::Settle => write!(f, "Settle"),
-        }
-    }
-}
-
-impl Display for Shown<Colour> {
-    fn fmt<W: fmt::Write>(&self, f: &mut fmt::Formatter<W>) -> fmt::Result {
-        match self.0 {
-            Colour::Zero => write!(f, "0"),
-            Colour::One => write!(f, "1"),
-        }
-    }
-}
-
 impl Display for Shown<bool> {
     fn fmt<W: fmt::Write>(&self, f: &mut fmt::Formatter<W>) -> fmt::Result {
         write!(f, "{}", if self.0 { "on" } else { "off" })
@@ -109,7 +85,7 @@ impl Display for Shown<Card> {
         let places = Listed(&places);
         let snoop = Shown(card.snoop);
         let logging = Shown(card.logging);
-        let birth = Shown(card.birth);
+        let birth = card.birth;
         let last = card.last;
         let update = OrDash(card.update.map(Shown));
         write!(
@@ -123,7 +99,7 @@ impl Display for Shown<Record> {
     fn fmt<W: fmt::Write>(&self, f: &mut fmt::Formatter<W>) -> fmt::Result {
         let record = self.0;
         let serial = record.serial;
-        let colour = Shown(record.colour);
+        let colour = record.colour;
         let links = Links(record.links);
         write!(f, "serial {serial} colour {colour} links {links} marks")?;
         if record.waiting {
@@ -160,10 +136,10 @@ pub(crate) fn show_store<C: Copy>(rt: &HostRuntime, store: &Store<'_, C>) -> any
 }
 
 fn show_round(rt: &HostRuntime, round: RoundState, cards: usize) -> anyhow::Result<()> {
-    let phase = Shown(round.phase);
+    let phase = round.phase;
     let order = round.order;
     let rounds = round.rounds;
-    let marked = Shown(round.marked);
+    let marked = round.marked;
     let next = round.next;
     let sweep = round.sweep;
     let answered: Vec<usize> = (0..cards)

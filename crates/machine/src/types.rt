@@ -8,7 +8,7 @@ pub enum Colour {
 }
 
 /// The phases of a round, in order and round again; Rest lies between two rounds.
-#[derive(Clone, Copy)]
+#[derive(Clone, Copy, PartialEq, Eq)]
 pub enum Phase {
     Rest,
     /// Cards switch snoop on.
