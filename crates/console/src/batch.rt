@@ -62,7 +62,13 @@ impl<C: Told> Batch<C> {
         let calls: Vec<Call<C>> = self.calls.iter().map(|(call, _)| *call).collect(heap)?;
         let answers = wire.play_over(heap, store, calls.as_slice())?;
         for (i, ((_, words), answer)) in self.calls.iter().zip(answers.iter()).enumerate() {
-            desk.answer_call(i == 0, words.as_str(), Shown(answer))?;
+            let before = if i == 0 {
+                desk.manner.lead()
+            } else {
+                desk.manner.parting()
+            };
+            let answer = Shown(answer);
+            print!(desk.rt; "{before}{words} -> {answer}")?;
         }
         println!(desk.rt; "")?;
         self.calls.clear();

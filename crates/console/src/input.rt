@@ -4,8 +4,6 @@ use std::io::{BufRead, BufReader, Read, Stdin};
 
 // Longer lines are told and passed over.
 const LONGEST: usize = 400;
-// So many bytes of a line are looked at: one more than a line may have.
-const LOOKED_AT: u64 = 401;
 
 /// Why a line is passed over.
 #[derive(Clone, Copy, PartialEq, Eq, Debug)]
@@ -43,7 +41,7 @@ impl Lines {
     // The next line with its number, or none at the end. Of a line that is too long no more than its beginning is kept.
     pub(crate) fn next_line(&mut self) -> anyhow::Result<Option<(u64, Result<&str, BadLine>)>> {
         self.bytes.clear();
-        let mut beginning = self.input.by_ref().take(LOOKED_AT);
+        let mut beginning = self.input.by_ref().take(LONGEST as u64 + 1);
         if beginning.read_until(b'\n', &mut self.bytes)? == 0 {
             return Ok(None);
         }

@@ -113,6 +113,7 @@ impl<C: Told> Tables<C> {
         } = self.size;
         let cells = self.cells.as_mut_slice();
         let contents = self.contents.as_mut_slice();
+        // kept: tried `map_err`; the borrow rules do not cover a closure that is handed the tables
         match Plan::check(heap, cells, contents, cards, first, rounds) {
             Ok(plan) => Ok(plan),
             Err(not_made) => Err(not_made.why),

@@ -1,5 +1,5 @@
 use crate::input::{BadLine, Lines};
-use anyhow::anyhow;
+use anyhow::Context;
 use contents::Contents;
 use line::{Leaky, passes};
 use octets::{Block, open_block};
@@ -39,52 +39,81 @@ impl From<Fault> for Unused {
 
 /// Reads a commissioning sheet, seals its values into blocks, reads them back, and sends their number over a leaky line.
 pub(crate) fn run_sheet(rt: &HostRuntime) -> anyhow::Result<()> {
-    let mut values = Vec::new(rt.alloc());
+    let mut sheet = Sheet {
+        rt,
+        values: Vec::new(rt.alloc()),
+    };
     let mut lines = Lines::new(rt)?;
     // kept: the library's iterators over lines hold a whole line, however long it is; `next_line` holds 401 bytes
     for _ in 0..u64::MAX {
         let Some((number, line)) = lines.next_line()? else {
             break;
         };
-        take_line(rt, &mut values, number, line)?;
+        sheet.take_line(number, line)?;
     }
-    seal_all(rt, values.as_slice())?;
-    send_count(rt, values.len())
+    sheet.seal_all()?;
+    sheet.send_count()
 }
 
-fn take_line(
-    rt: &HostRuntime,
-    values: &mut Vec<Value>,
-    number: u64,
-    line: Result<&str, BadLine>,
-) -> anyhow::Result<()> {
-    match line {
-        Ok(text) => take_text(rt, values, number, text),
-        Err(bad) => {
-            println!(rt; "line {number}: {bad}")?;
-            Ok(())
-        }
-    }
+/// The values of a sheet, and where is told what becomes of them.
+#[derive(Drop)]
+struct Sheet<'a> {
+    rt: &'a HostRuntime,
+    values: Vec<Value>,
 }
 
-fn take_text(
-    rt: &HostRuntime,
-    values: &mut Vec<Value>,
-    number: u64,
-    text: &str,
-) -> anyhow::Result<()> {
-    let words: Vec<&str> = text.split_whitespace().collect(rt.alloc())?;
-    if words.is_empty() {
-        return Ok(());
-    }
-    match value_said(words.as_slice()) {
-        Ok(value) => {
-            tell_form(rt, number, &value)?;
-            values.push(value)?;
+impl Sheet<'_> {
+    fn take_line(&mut self, number: u64, line: Result<&str, BadLine>) -> anyhow::Result<()> {
+        match line {
+            Ok(text) => self.take_text(number, text)?,
+            Err(bad) => println!(self.rt; "line {number}: {bad}")?,
         }
-        Err(unused) => println!(rt; "line {number}: {unused}")?,
+        Ok(())
     }
-    Ok(())
+
+    fn take_text(&mut self, number: u64, text: &str) -> anyhow::Result<()> {
+        let words: Vec<&str> = text.split_whitespace().collect(self.rt.alloc())?;
+        if words.is_empty() {
+            return Ok(());
+        }
+        match value_said(words.as_slice()) {
+            Ok(value) => {
+                tell_form(self.rt, number, &value)?;
+                self.values.push(value)?;
+            }
+            Err(unused) => println!(self.rt; "line {number}: {unused}")?,
+        }
+        Ok(())
+    }
+
+    // Seals the values, and reads each block back. The numbers of the blocks begin again after 65,535.
+    fn seal_all(&self) -> anyhow::Result<()> {
+        for (number, part) in self.values.chunks(IN_A_BLOCK).enumerate() {
+            let number = (number & 0xffff) as u16;
+            let mut bytes = [0u8; 512];
+            match sealed(&mut bytes, number, part) {
+                Ok(block) => tell_block(self.rt, block)?,
+                Err(refusal) => println!(self.rt; "block {number}: {refusal}")?,
+            }
+        }
+        Ok(())
+    }
+
+    // Sends the number of values to card 0 until it arrives.
+    fn send_count(&self) -> anyhow::Result<()> {
+        let count = u32::try_from(self.values.len());
+        let number = count.ok().context("more values than a line can tell")?;
+        let mut line = Leaky::new(PATTERN);
+        match (0..TRIES).find(|_| passes(&mut line, 0, number)) {
+            Some(lost) => println!(self.rt;
+                "sent {number} to card 0 over a leaky line: sendings lost {lost}, then it arrived"
+            )?,
+            None => println!(self.rt;
+                "sent {number} to card 0 over a leaky line: all {TRIES} sendings lost"
+            )?,
+        }
+        Ok(())
+    }
 }
 
 fn value_said(words: &[&str]) -> Result<Value, Unused> {
@@ -110,19 +139,6 @@ fn tell_form(rt: &HostRuntime, number: u64, value: &Value) -> anyhow::Result<()>
     Ok(())
 }
 
-// Seals the values, and reads each block back. The numbers of the blocks begin again after 65,535.
-fn seal_all(rt: &HostRuntime, values: &[Value]) -> anyhow::Result<()> {
-    for (number, part) in values.chunks(IN_A_BLOCK).enumerate() {
-        let number = (number & 0xffff) as u16;
-        let mut bytes = [0u8; 512];
-        match sealed(&mut bytes, number, part) {
-            Ok(block) => tell_block(rt, block)?,
-            Err(refusal) => println!(rt; "block {number}: {refusal}")?,
-        }
-    }
-    Ok(())
-}
-
 // The block of these values and the check at its end.
 fn sealed<'a>(
     bytes: &'a mut [u8; 512],
@@ -145,23 +161,6 @@ fn tell_block(rt: &HostRuntime, (block, check): (Block<'_>, u32)) -> anyhow::Res
             Some(value) => println!(rt; "  {k} {value}")?,
             None => println!(rt; "  {k} is no value")?,
         }
-    }
-    Ok(())
-}
-
-// Sends the number of values to card 0 until it arrives.
-fn send_count(rt: &HostRuntime, count: usize) -> anyhow::Result<()> {
-    let Ok(number) = u32::try_from(count) else {
-        return Err(anyhow!("more values than a line can tell"));
-    };
-    let mut line = Leaky::new(PATTERN);
-    match (0..TRIES).find(|_| passes(&mut line, 0, number)) {
-        Some(lost) => println!(rt;
-            "sent {number} to card 0 over a leaky line: sendings lost {lost}, then it arrived"
-        )?,
-        None => println!(rt;
-            "sent {number} to card 0 over a leaky line: all {TRIES} sendings lost"
-        )?,
     }
     Ok(())
 }

@@ -1,5 +1,5 @@
 //! A commissioning day, told and played.
-use crate::desk::Desk;
+use crate::desk::{Desk, Manner};
 use crate::lives::live;
 use crate::source::{Item, Source};
 use std::slice::Iter;
@@ -134,7 +134,6 @@ pub(crate) fn run_story(rt: &HostRuntime) -> anyhow::Result<()> {
     println!(rt;
         "A commissioning day. Each call stands with its answer after an arrow; 'refused' and a number says why not."
     )?;
-    let desk = Desk { rt, story: true };
-    let mut day = Day { lines: DAY.iter() };
-    live(desk, &mut day)
+    let manner = Manner::Story;
+    live(Desk { rt, manner }, &mut Day { lines: DAY.iter() })
 }

@@ -3,7 +3,7 @@
 
 mod work;
 
-use anyhow::anyhow;
+use anyhow::{Context, anyhow};
 use contents::Effect;
 use line::Direct;
 use promises::begin;
@@ -16,9 +16,9 @@ const TRIES: u32 = 200;
 /// Measures a card call, a whole round over 4,096 live records, and the longest call of such a round.
 pub fn run(rt: &HostRuntime) -> anyhow::Result<()> {
     let heap = rt.alloc();
-    let Ok(x) = Effect::new(1, 0) else {
-        return Err(anyhow!("no contents to measure with"));
-    };
+    let x = Effect::new(1, 0)
+        .ok()
+        .context("no contents to measure with")?;
     let mut cells = vec![in heap; None; 4096]?;
     let mut contents = vec![in heap; x; 4096]?;
     let Ok(plan) = Plan::check(heap, cells.as_mut_slice(), contents.as_mut_slice(), 8, 1, 0) else {
