@@ -1,8 +1,10 @@
 //! Calls that are collected and then played together.
-use crate::desk::Desk;
+use crate::player::Player;
 use crate::told::Told;
-use crate::wire::Wire;
+use crate::unheard::Unheard;
 use machine::types::{Answer, Call, Given};
+use std::alloc::Global;
+use std::fmt;
 use store::Store;
 
 const MOST: usize = 1000;
@@ -10,15 +12,30 @@ const MOST: usize = 1000;
 /// The calls that are not played yet, each with its words.
 #[derive(Drop)]
 pub struct Batch<C: Copy> {
-    calls: Vec<Call<C>>,
-    words: Vec<String>,
+    calls: Vec<(Call<C>, String)>,
+}
+
+/// What is printed of an answer.
+#[derive(Clone, Copy)]
+struct Shown<'a, C>(&'a Answer<C>);
+
+impl<C: Told> fmt::Display for Shown<'_, C> {
+    fn fmt<W: fmt::Write>(&self, f: &mut fmt::Formatter<W>) -> fmt::Result {
+        match self.0 {
+            Ok(Given::Number(number)) => write!(f, "{number}"),
+            Ok(Given::Contents(serial, x)) => write!(f, "{serial} {x}"),
+            Err(refusal) => {
+                let refused = Unheard::from(*refusal);
+                write!(f, "{refused}")
+            }
+        }
+    }
 }
 
 impl<C: Told> Batch<C> {
-    pub(crate) fn new(desk: Desk<'_>) -> Self {
+    pub(crate) fn new(heap: Global) -> Self {
         Batch {
-            calls: Vec::new(desk.rt.alloc()),
-            words: Vec::new(desk.rt.alloc()),
+            calls: Vec::new(heap),
         }
     }
 
@@ -27,46 +44,34 @@ impl<C: Told> Batch<C> {
     }
 
     pub(crate) fn add(&mut self, call: Call<C>, words: String) -> anyhow::Result<()> {
-        self.calls.push(call)?;
-        self.words.push(words)?;
+        self.calls.push((call, words))?;
         Ok(())
     }
 
     // Plays what was collected and prints each call with its answer.
     pub(crate) fn flush(
         &mut self,
-        desk: Desk<'_>,
+        player: &mut Player<'_>,
         store: &mut Store<'_, C>,
-        wire: &mut Wire,
     ) -> anyhow::Result<()> {
         if self.calls.is_empty() {
             return Ok(());
         }
-        let answers = wire.play_over(desk.rt.alloc(), store, self.calls.as_slice())?;
-        let mut first = true;
-        for (words, answer) in self.words.iter().zip(answers.iter()) {
-            desk.begin_call(first, words.as_str())?;
-            first = false;
-            tell(desk.rt, answer)?;
+        let Player { desk, wire } = player;
+        let heap = desk.rt.alloc();
+        let calls: Vec<Call<C>> = self.calls.iter().map(|(call, _)| *call).collect(heap)?;
+        let answers = wire.play_over(heap, store, calls.as_slice())?;
+        for (i, ((_, words), answer)) in self.calls.iter().zip(answers.iter()).enumerate() {
+            let before = if i == 0 {
+                desk.manner.lead()
+            } else {
+                desk.manner.parting()
+            };
+            let answer = Shown(answer);
+            print!(desk.rt; "{before}{words} -> {answer}")?;
         }
         println!(desk.rt; "")?;
         self.calls.clear();
-        self.words.clear();
         Ok(())
     }
-}
-
-fn tell<C: Told>(rt: &HostRuntime, answer: &Answer<C>) -> anyhow::Result<()> {
-    match answer {
-        Ok(Given::Number(number)) => print!(rt; "{number}")?,
-        Ok(Given::Contents(serial, x)) => {
-            print!(rt; "{serial} ")?;
-            x.show(rt)?;
-        }
-        Err(refusal) => {
-            let number = refusal.number();
-            print!(rt; "refused {number}")?;
-        }
-    }
-    Ok(())
 }

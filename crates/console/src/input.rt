@@ -1,59 +1,62 @@
-//! Lines of input, however long they are and whatever bytes they hold.
-use std::alloc::{AllocError, AllocFailed, Global};
+//! Lines of standard input, however long they are and whatever bytes they hold.
+use std::fmt;
+use std::io::{BufRead, BufReader, Read, Stdin};
 
 // Longer lines are told and passed over.
 const LONGEST: usize = 400;
 
-/// The line that is being read. Of one that is too long only the fact is kept.
-#[derive(Drop)]
-pub struct Line {
-    bytes: Vec<u8>,
-    too_long: bool,
-}
-
-/// What a whole line turned out to be.
-pub enum Text<'a> {
-    Words(&'a str),
+/// Why a line is passed over.
+#[derive(Clone, Copy, PartialEq, Eq, Debug)]
+pub enum BadLine {
     TooLong,
     NotText,
 }
 
-impl Line {
-    pub(crate) fn new(heap: Global) -> Self {
-        Line {
-            bytes: Vec::new(heap),
-            too_long: false,
+impl fmt::Display for BadLine {
+    fn fmt<W: fmt::Write>(&self, f: &mut fmt::Formatter<W>) -> fmt::Result {
+        match self {
+            BadLine::TooLong => write!(f, "too long, passed over"),
+            BadLine::NotText => write!(f, "not text, passed over"),
         }
     }
+}
 
-    pub(crate) fn is_empty(&self) -> bool {
-        self.bytes.is_empty() && !self.too_long
+/// The lines of standard input.
+#[derive(Drop)]
+pub struct Lines {
+    input: BufReader<Stdin>,
+    bytes: Vec<u8>,
+    number: u64,
+}
+
+impl Lines {
+    pub(crate) fn new(rt: &HostRuntime) -> anyhow::Result<Self> {
+        Ok(Lines {
+            input: BufReader::new(rt.alloc(), rt.stdin())?,
+            bytes: Vec::new(rt.alloc()),
+            number: 0,
+        })
     }
 
-    pub(crate) fn add(&mut self, byte: u8) -> Result<(), AllocFailed<u8>> {
-        if self.bytes.len() >= LONGEST {
-            self.too_long = true;
-            return Ok(());
-        }
-        self.bytes.push(byte)
-    }
-
-    pub(crate) fn clear(&mut self) {
+    // The next line with its number, or none at the end. Of a line that is too long no more than its beginning is kept.
+    pub(crate) fn next_line(&mut self) -> anyhow::Result<Option<(u64, Result<&str, BadLine>)>> {
         self.bytes.clear();
-        self.too_long = false;
+        let mut beginning = self.input.by_ref().take(LONGEST as u64 + 1);
+        if beginning.read_until(b'\n', &mut self.bytes)? == 0 {
+            return Ok(None);
+        }
+        self.number = self.number.saturating_add(1);
+        self.bytes.pop_if(|byte| *byte == b'\n');
+        if self.bytes.len() > LONGEST {
+            self.input.skip_until(b'\n')?;
+            return Ok(Some((self.number, Err(BadLine::TooLong))));
+        }
+        Ok(Some((self.number, text_of(self.bytes.as_slice()))))
     }
+}
 
-    // What stands before a '#', as text.
-    pub(crate) fn text(&self) -> Text<'_> {
-        if self.too_long {
-            return Text::TooLong;
-        }
-        match std::str::from_utf8(self.bytes.as_slice()) {
-            Ok(text) => match text.split_once('#') {
-                Some((before, _)) => Text::Words(before),
-                None => Text::Words(text),
-            },
-            Err(_) => Text::NotText,
-        }
-    }
+// What stands before a '#', as text.
+fn text_of(bytes: &[u8]) -> Result<&str, BadLine> {
+    let text = std::str::from_utf8(bytes).map_err(|_| BadLine::NotText)?;
+    Ok(text.split_once('#').map_or(text, |(before, _)| before))
 }

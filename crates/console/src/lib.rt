@@ -10,11 +10,13 @@ mod lives;
 mod makes;
 mod picture;
 mod play_command;
+mod player;
 mod said;
 mod sheet_command;
 mod source;
 mod story_command;
 mod told;
+mod unheard;
 mod wire;
 
 use anyhow::anyhow;

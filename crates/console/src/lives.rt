@@ -1,218 +1,129 @@
-//! The life of one store: from its making to the next making, or to the end of the script.
+//! The lives of the stores of a script: each from its making to the next making, or to the end of the script.
 use crate::batch::Batch;
 use crate::desk::Desk;
-use crate::makes::{Size, Wanted, choose, no_memory, table};
-use crate::picture::show_store;
-use crate::said::{Heard, call_said, joined};
+use crate::makes::{Tables, Wanted, no_memory};
+use crate::player::Player;
+use crate::said::{Spoken, call_said};
 use crate::source::{Item, Source};
 use crate::told::Told;
-use crate::wire::Wire;
-use contents::{Effect, Event};
-use machine::types::Cell;
+use crate::unheard::Unheard;
 use promises::begin;
-use store::{Plan, Store};
+use std::alloc::Global;
+use store::Store;
 
-/// What comes after an item.
-enum Step {
-    On,
-    Make(Wanted),
-    End,
+/// A store that a script plays on, and its calls that are not played yet.
+#[derive(Drop)]
+struct Life<'p, 'd, 's, C: Copy> {
+    player: &'p mut Player<'d>,
+    store: Store<'s, C>,
+    batch: Batch<C>,
 }
 
 // Plays a script from its beginning to its end.
 pub(crate) fn live<S: Source>(desk: Desk<'_>, source: &mut S) -> anyhow::Result<()> {
-    let mut wire = Wire::straight();
-    let mut wanted = without_store(desk, source, &mut wire)?;
+    let mut player = Player::new(desk);
+    let mut wanted = until_made(source, |item| player.take_early(item))?;
+    // kept: how many stores a script makes is known by reading it alone, so nothing plainer than a count ends the loop
     for _ in 0..u64::MAX {
-        let Some(next) = wanted else {
-            return Ok(());
-        };
-        wanted = match next {
-            Wanted::Events(size, index) => with_store(desk, source, &mut wire, size, index)?,
-            Wanted::Effects(size, index) => with_store(desk, source, &mut wire, size, index)?,
+        wanted = match wanted {
+            None => return Ok(()),
+            Some(Wanted::Events(tables)) => with_store(&mut player, source, tables)?,
+            Some(Wanted::Effects(tables)) => with_store(&mut player, source, tables)?,
         };
     }
     Ok(())
 }
 
-// Answers lines until a store is made; answers which.
-fn without_store<S: Source>(
-    desk: Desk<'_>,
+// Takes items until one makes a store; answers which.
+fn until_made<S: Source, F: FnMut(Item<'_>) -> anyhow::Result<Option<Wanted>>>(
     source: &mut S,
-    wire: &mut Wire,
-) -> anyhow::Result<Option<Wanted>> {
+    mut take: F,
+) -> anyhow::Result<Option<Wanted>>
+    requires { F.IsAlwaysCallable take }
+{
+    // kept: an item lends the line that it was read from, and an iterator's items cannot
     for _ in 0..u64::MAX {
-        let item = source.next_item()?;
-        let step = match item {
-            Item::Words(text) => take_early(desk, wire, text)?,
-            _ => tell_item(desk, item)?,
+        let Some(item) = source.next_item()? else {
+            return Ok(None);
         };
-        match step {
-            Step::On => {}
-            Step::Make(wanted) => return Ok(Some(wanted)),
-            Step::End => return Ok(None),
+        if let Some(wanted) = take(item)? {
+            return Ok(Some(wanted));
         }
     }
     Ok(None)
 }
 
-// Answers a line while there is no store.
-fn take_early(desk: Desk<'_>, wire: &mut Wire, text: &str) -> anyhow::Result<Step> {
-    let words: Vec<&str> = text.split_whitespace().collect(desk.rt.alloc())?;
-    if words.is_empty() {
-        return Ok(Step::On);
-    }
-    let shown = joined(desk.rt.alloc(), words.as_slice())?;
-    if wants_store(words.as_slice()) {
-        desk.answer(shown.as_str(), "no store")?;
-        return Ok(Step::On);
-    }
-    choose_next(desk, wire, words.as_slice(), shown.as_str())
-}
-
-// Whether the words are a call on a store of some kind, or ask for its state.
-fn wants_store(words: &[&str]) -> bool {
-    if let ["state"] = words {
-        return true;
-    }
-    is_call(call_said::<Event>(words)) || is_call(call_said::<Effect>(words))
-}
-
-fn is_call<C: Copy>(heard: Heard<C>) -> bool {
-    match heard {
-        Heard::Does(_) => true,
-        Heard::Refused(_) => true,
-        Heard::Unknown => false,
-    }
-}
-
-// Makes a store over tables of its own and plays on it until the next one is wanted; answers which.
+// Makes a store over the tables and plays on it until the next one is wanted; answers which.
 fn with_store<C: Told, S: Source>(
-    desk: Desk<'_>,
+    player: &mut Player<'_>,
     source: &mut S,
-    wire: &mut Wire,
-    size: Size,
-    index: C,
+    mut tables: Tables<C>,
 ) -> anyhow::Result<Option<Wanted>> {
-    let heap = desk.rt.alloc();
-    let mut cells = table(heap, None, size.cells)?;
-    let mut contents = table(heap, index, size.cells)?;
-    let checked = Plan::check(
-        heap,
-        cells.as_mut_slice(),
-        contents.as_mut_slice(),
-        size.cards,
-        size.first,
-        size.rounds,
-    );
-    let Ok(plan) = checked else {
+    let heap = player.heap();
+    let index = tables.index();
+    let Ok(plan) = tables.plan(heap) else {
         return Err(no_memory());
     };
-    let mut store = begin(plan, index);
-    use_store(desk, source, wire, &mut store)
+    let mut life = Life::new(heap, player, begin(plan, index));
+    let wanted = until_made(source, |item| life.take_item(item))?;
+    life.flush()?;
+    Ok(wanted)
 }
 
-// Plays on a store until the next one is wanted; answers which.
-fn use_store<C: Told, S: Source>(
-    desk: Desk<'_>,
-    source: &mut S,
-    wire: &mut Wire,
-    store: &mut Store<'_, C>,
-) -> anyhow::Result<Option<Wanted>> {
-    let mut batch = Batch::new(desk);
-    for _ in 0..u64::MAX {
-        let item = source.next_item()?;
-        match take_item(desk, store, wire, &mut batch, item)? {
-            Step::On => {}
-            Step::Make(wanted) => return Ok(Some(wanted)),
-            Step::End => return Ok(None),
+impl<'p, 'd, 's, C: Told> Life<'p, 'd, 's, C> {
+    fn new(heap: Global, player: &'p mut Player<'d>, store: Store<'s, C>) -> Self {
+        Life {
+            player,
+            store,
+            batch: Batch::new(heap),
         }
     }
-    Ok(None)
-}
 
-fn take_item<C: Told>(
-    desk: Desk<'_>,
-    store: &mut Store<'_, C>,
-    wire: &mut Wire,
-    batch: &mut Batch<C>,
-    item: Item<'_>,
-) -> anyhow::Result<Step> {
-    if let Item::Words(text) = item {
-        return take_words(desk, store, wire, batch, text);
+    fn flush(&mut self) -> anyhow::Result<()> {
+        self.batch.flush(self.player, &mut self.store)
     }
-    batch.flush(desk, store, wire)?;
-    tell_item(desk, item)
-}
 
-// Tells what an item says that is no line of words.
-fn tell_item(desk: Desk<'_>, item: Item<'_>) -> anyhow::Result<Step> {
-    match item {
-        Item::End => return Ok(Step::End),
-        Item::Words(_) => {}
-        Item::Sentence(text) => println!(desk.rt; "{text}")?,
-        Item::TooLong(number) => println!(desk.rt; "line {number}: too long, passed over")?,
-        Item::NotText(number) => println!(desk.rt; "line {number}: not text, passed over")?,
+    fn take_item(&mut self, item: Item<'_>) -> anyhow::Result<Option<Wanted>> {
+        let Item::Words(text) = item else {
+            self.flush()?;
+            self.player.tell_aside(item)?;
+            return Ok(None);
+        };
+        let line = Spoken::of(self.player.heap(), text)?;
+        if line.words.is_empty() {
+            return Ok(None);
+        }
+        self.take_line(line)
     }
-    Ok(Step::On)
-}
 
-// Collects the call that a line says, or plays what was collected and then answers the line.
-fn take_words<C: Told>(
-    desk: Desk<'_>,
-    store: &mut Store<'_, C>,
-    wire: &mut Wire,
-    batch: &mut Batch<C>,
-    text: &str,
-) -> anyhow::Result<Step> {
-    let words: Vec<&str> = text.split_whitespace().collect(desk.rt.alloc())?;
-    if words.is_empty() {
-        return Ok(Step::On);
-    }
-    let shown = joined(desk.rt.alloc(), words.as_slice())?;
-    match call_said(words.as_slice()) {
-        Heard::Does(call) => {
-            batch.add(call, shown)?;
-            if batch.is_full() {
-                batch.flush(desk, store, wire)?;
+    // Collects the call that a line says, or plays what was collected and then answers the line.
+    fn take_line(&mut self, line: Spoken<'_>) -> anyhow::Result<Option<Wanted>> {
+        match call_said(line.words.as_slice()) {
+            Ok(call) => {
+                self.batch.add(call, line.shown)?;
+                if self.batch.is_full() {
+                    self.flush()?;
+                }
+                Ok(None)
             }
-            Ok(Step::On)
-        }
-        Heard::Refused(refusal) => {
-            batch.flush(desk, store, wire)?;
-            desk.refuse(shown.as_str(), refusal)?;
-            Ok(Step::On)
-        }
-        Heard::Unknown => {
-            batch.flush(desk, store, wire)?;
-            take_other(desk, store, wire, words.as_slice(), shown.as_str())
+            Err(Unheard::Unknown) => {
+                self.flush()?;
+                self.take_other(&line)
+            }
+            Err(refused) => {
+                self.flush()?;
+                self.player.answer(line.shown.as_str(), refused)?;
+                Ok(None)
+            }
         }
     }
-}
 
-// Answers a line that is no call.
-fn take_other<C: Copy>(
-    desk: Desk<'_>,
-    store: &Store<'_, C>,
-    wire: &mut Wire,
-    words: &[&str],
-    shown: &str,
-) -> anyhow::Result<Step> {
-    if let ["state"] = words {
-        show_store(desk.rt, store)?;
-        return Ok(Step::On);
-    }
-    choose_next(desk, wire, words, shown)
-}
-
-fn choose_next(
-    desk: Desk<'_>,
-    wire: &mut Wire,
-    words: &[&str],
-    shown: &str,
-) -> anyhow::Result<Step> {
-    match choose(desk, wire, words, shown)? {
-        Some(wanted) => Ok(Step::Make(wanted)),
-        None => Ok(Step::On),
+    // Answers a line that is no call.
+    fn take_other(&mut self, line: &Spoken<'_>) -> anyhow::Result<Option<Wanted>> {
+        if let ["state"] = line.words.as_slice() {
+            self.player.show(&self.store)?;
+            return Ok(None);
+        }
+        self.player.take_other(line)
     }
 }

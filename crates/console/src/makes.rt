@@ -1,15 +1,14 @@
 //! Making a store, and choosing a line: what a script may say with a store or without one.
-use crate::desk::Desk;
-use crate::said::{byte_in, pattern_in, word_in};
-use crate::told::{Told, Value};
+use crate::said::{capped, pattern_in};
+use crate::told::Told;
+use crate::unheard::Unheard;
 use crate::wire::Wire;
 use anyhow::anyhow;
 use contents::{Effect, Event};
 use machine::types::Cell;
 use refusal::Refusal;
-use sheet::number_in;
 use std::alloc::{AllocError, Global};
-use store::{NotMade, Plan, Why};
+use store::{Plan, Why};
 
 // A store has no more cells, so no larger tables are ever taken.
 const MOST_CELLS: usize = 4096;
@@ -17,140 +16,129 @@ const MOST_CELLS: usize = 4096;
 /// The numbers of a store.
 #[derive(Clone, Copy)]
 pub struct Size {
-    pub(crate) cells: usize,
-    pub(crate) cards: u8,
-    pub(crate) first: u32,
-    pub(crate) rounds: u32,
+    cells: usize,
+    cards: u8,
+    first: u32,
+    rounds: u32,
 }
 
-/// A store that is wanted, with the contents of its index record.
-#[derive(Clone, Copy)]
+/// The tables of a store that is wanted, its numbers, and the contents of its index record.
+#[derive(Drop)]
+pub struct Tables<C: Copy> {
+    cells: Vec<Cell>,
+    contents: Vec<C>,
+    size: Size,
+    index: C,
+}
+
+/// A store that is wanted.
+#[derive(Drop)]
 pub enum Wanted {
-    Events(Size, Event),
-    Effects(Size, Effect),
+    Events(Tables<Event>),
+    Effects(Tables<Effect>),
 }
 
-enum Make {
-    Good(Wanted),
-    Refused(Refusal),
-    Unknown,
+/// Why words make no store.
+#[derive(Drop)]
+pub enum Unmade {
+    Unheard(Unheard),
+    /// There is no memory, and the program ends.
+    Failed(anyhow::Error),
+}
+
+impl From<Unheard> for Unmade {
+    fn from(unheard: Unheard) -> Unmade {
+        Unmade::Unheard(unheard)
+    }
+}
+
+impl From<AllocError> for Unmade {
+    fn from(error: AllocError) -> Unmade {
+        Unmade::Failed(anyhow::Error::from(error))
+    }
+}
+
+impl From<Why> for Unmade {
+    fn from(why: Why) -> Unmade {
+        match why {
+            Why::Refused(refusal) => Unmade::Unheard(Unheard::from(refusal)),
+            Why::NoMemory => Unmade::Failed(no_memory()),
+        }
+    }
 }
 
 pub(crate) fn no_memory() -> anyhow::Error {
     anyhow!("there is no memory for a store")
 }
 
-// So many times the same.
-pub(crate) fn table<T: Copy>(heap: Global, x: T, count: usize) -> Result<Vec<T>, AllocError> {
-    let mut all = Vec::with_capacity(heap, count)?;
-    for _ in 0..count {
-        all.push(x)?;
-    }
-    Ok(all)
-}
-
 // The numbers that the words say, if they are numbers.
-fn size_said(cells: &str, cards: &str, first: &str, rounds: &str) -> Option<Size> {
-    Some(Size {
-        cells: usize::try_from(number_in(cells)?).unwrap_or(usize::MAX),
-        cards: byte_in(cards)?,
-        first: word_in(first)?,
-        rounds: word_in(rounds)?,
+fn size_said(cells: &str, cards: &str, first: &str, rounds: &str) -> Result<Size, Unheard> {
+    Ok(Size {
+        cells: capped(cells, usize::MAX)?,
+        cards: capped(cards, u8::MAX)?,
+        first: capped(first, u32::MAX)?,
+        rounds: capped(rounds, u32::MAX)?,
     })
 }
 
-// Whether a store of this size can be made: checked over tables of its own, with nothing written.
-fn refused<C: Copy>(heap: Global, size: Size, index: C) -> anyhow::Result<Option<Refusal>> {
-    if size.cells > MOST_CELLS {
-        return Ok(Some(Refusal::OutOfRange));
+impl<C: Told> Tables<C> {
+    // The tables of a store with this size and the index contents that the words say, if such a store can be made.
+    fn said(heap: Global, size: Size, words: &[&str]) -> Result<Self, Unmade> {
+        let index = C::said(words)?;
+        if size.cells > MOST_CELLS {
+            return Err(Unmade::from(Unheard::from(Refusal::OutOfRange)));
+        }
+        let mut tables = Tables {
+            cells: vec![in heap; None; size.cells]?,
+            contents: vec![in heap; index; size.cells]?,
+            size,
+            index,
+        };
+        tables.plan(heap)?;
+        Ok(tables)
     }
-    let mut cells = table(heap, None, size.cells)?;
-    let mut contents = table(heap, index, size.cells)?;
-    let checked = Plan::check(
-        heap,
-        cells.as_mut_slice(),
-        contents.as_mut_slice(),
-        size.cards,
-        size.first,
-        size.rounds,
-    );
-    match checked {
-        Ok(_) => Ok(None),
-        Err(NotMade { why, .. }) => match why {
-            Why::Refused(refusal) => Ok(Some(refusal)),
-            Why::NoMemory => Err(no_memory()),
-        },
+
+    // The contents of the index record.
+    pub(crate) fn index(&self) -> C {
+        self.index
+    }
+
+    // Checks whether a store can be made of the tables; nothing is written.
+    pub(crate) fn plan(&mut self, heap: Global) -> Result<Plan<'_, C>, Why> {
+        let Size {
+            cards,
+            first,
+            rounds,
+            ..
+        } = self.size;
+        let cells = self.cells.as_mut_slice();
+        let contents = self.contents.as_mut_slice();
+        // kept: tried `map_err`; the borrow rules do not cover a closure that is handed the tables
+        match Plan::check(heap, cells, contents, cards, first, rounds) {
+            Ok(plan) => Ok(plan),
+            Err(not_made) => Err(not_made.why),
+        }
     }
 }
 
-fn events_said(heap: Global, size: Size, rest: &[&str]) -> anyhow::Result<Make> {
-    match Event::said(rest) {
-        Value::Is(index) => match refused(heap, size, index)? {
-            None => Ok(Make::Good(Wanted::Events(size, index))),
-            Some(refusal) => Ok(Make::Refused(refusal)),
-        },
-        Value::Refused(refusal) => Ok(Make::Refused(refusal)),
-        Value::Unknown => Ok(Make::Unknown),
-    }
-}
-
-fn effects_said(heap: Global, size: Size, rest: &[&str]) -> anyhow::Result<Make> {
-    match Effect::said(rest) {
-        Value::Is(index) => match refused(heap, size, index)? {
-            None => Ok(Make::Good(Wanted::Effects(size, index))),
-            Some(refusal) => Ok(Make::Refused(refusal)),
-        },
-        Value::Refused(refusal) => Ok(Make::Refused(refusal)),
-        Value::Unknown => Ok(Make::Unknown),
-    }
-}
-
-fn make_said(heap: Global, words: &[&str]) -> anyhow::Result<Make> {
+// The store that the words want, if it can be made.
+pub(crate) fn wanted_said(heap: Global, words: &[&str]) -> Result<Wanted, Unmade> {
     let ["make", kind, cells, cards, first, rounds, rest @ ..] = words else {
-        return Ok(Make::Unknown);
+        return Err(Unmade::from(Unheard::Unknown));
     };
-    let Some(size) = size_said(cells, cards, first, rounds) else {
-        return Ok(Make::Unknown);
-    };
+    let size = size_said(cells, cards, first, rounds)?;
     match *kind {
-        "events" => events_said(heap, size, rest),
-        "effects" => effects_said(heap, size, rest),
-        _ => Ok(Make::Unknown),
+        "events" => Ok(Wanted::Events(Tables::said(heap, size, rest)?)),
+        "effects" => Ok(Wanted::Effects(Tables::said(heap, size, rest)?)),
+        _ => Err(Unmade::from(Unheard::Unknown)),
     }
 }
 
-fn wire_said(words: &[&str]) -> Option<Wire> {
+// The line that the words choose.
+pub(crate) fn wire_said(words: &[&str]) -> Option<Wire> {
     match words {
         ["line", "direct"] => Some(Wire::straight()),
         ["line", "leaky", pattern] => Some(Wire::lossy(pattern_in(pattern)?)),
         _ => None,
-    }
-}
-
-// Answers a line that is no call: it makes a store, chooses a line, or is not understood.
-pub(crate) fn choose(
-    desk: Desk<'_>,
-    wire: &mut Wire,
-    words: &[&str],
-    shown: &str,
-) -> anyhow::Result<Option<Wanted>> {
-    if let Some(chosen) = wire_said(words) {
-        *wire = chosen;
-        desk.answer(shown, "ready")?;
-        return Ok(None);
-    }
-    match make_said(desk.rt.alloc(), words)? {
-        Make::Good(wanted) => {
-            desk.answer(shown, "made")?;
-            Ok(Some(wanted))
-        }
-        Make::Refused(refusal) => {
-            desk.refuse(shown, refusal)?;
-            Ok(None)
-        }
-        Make::Unknown => {
-            desk.answer(shown, "not understood")?;
-            Ok(None)
-        }
     }
 }

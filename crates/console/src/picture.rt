@@ -1,195 +1,169 @@
 //! The whole store as text.
-use machine::types::{Card, Cell, Colour, Phase, Record, Stage, Update};
+use machine::types::{Card, Record, Stage, Update};
+use std::fmt;
+use std::fmt::Display;
 use store::{RoundState, Store};
 
-fn phase_word(phase: Phase) -> &'static str {
-    match phase {
-        Phase::Rest => "Rest",
-        Phase::Alert => "Alert",
-        Phase::Log => "Log",
-        Phase::Gather => "Gather",
-        Phase::Trace => "Trace",
-        Phase::Ease => "Ease",
-        Phase::Sweep => "Sweep",
-        Phase::Settle => "Settle",
+/// What may be missing; a dash stands for it.
+#[derive(Clone, Copy)]
+struct OrDash<T>(Option<T>);
+
+impl<T: Display> Display for OrDash<T> {
+    fn fmt<W: fmt::Write>(&self, f: &mut fmt::Formatter<W>) -> fmt::Result {
+        match &self.0 {
+            Some(x) => write!(f, "{x}"),
+            None => write!(f, "-"),
+        }
     }
 }
 
-fn colour_number(colour: Colour) -> u8 {
-    match colour {
-        Colour::Zero => 0,
-        Colour::One => 1,
+/// Items with a space between them, or a dash where there is none.
+#[derive(Clone, Copy)]
+struct Listed<'a, T>(&'a [T]);
+
+impl<T: Display> Display for Listed<'_, T> {
+    fn fmt<W: fmt::Write>(&self, f: &mut fmt::Formatter<W>) -> fmt::Result {
+        let Some((first, others)) = self.0.split_first() else {
+            return write!(f, "-");
+        };
+        write!(f, "{first}")?;
+        for item in others {
+            write!(f, " {item}")?;
+        }
+        Ok(())
     }
 }
 
-fn switch_word(on: bool) -> &'static str {
-    if on { "on" } else { "off" }
-}
+/// The links of a record.
+#[derive(Clone, Copy)]
+struct Links([Option<u16>; 4]);
 
-// A space and a cell's number, or a dash for none.
-fn show_name(rt: &HostRuntime, name: Option<u16>) -> anyhow::Result<()> {
-    match name {
-        Some(cell) => print!(rt; " {cell}")?,
-        None => print!(rt; " -")?,
+impl Display for Links {
+    fn fmt<W: fmt::Write>(&self, f: &mut fmt::Formatter<W>) -> fmt::Result {
+        let names = self.0.map(OrDash);
+        let links = Listed(&names);
+        write!(f, "{links}")
     }
-    Ok(())
 }
 
-fn show_names(rt: &HostRuntime, names: &[Option<u16>]) -> anyhow::Result<()> {
-    for name in names {
-        show_name(rt, *name)?;
+/// A part of the store, as the picture shows it.
+#[derive(Clone, Copy)]
+struct Shown<T>(T);
+
+impl Display for Shown<bool> {
+    fn fmt<W: fmt::Write>(&self, f: &mut fmt::Formatter<W>) -> fmt::Result {
+        write!(f, "{}", if self.0 { "on" } else { "off" })
     }
-    Ok(())
 }
 
-fn show_links(rt: &HostRuntime, links: [Option<u16>; 4]) -> anyhow::Result<()> {
-    let [a, b, c, d] = links;
-    show_name(rt, a)?;
-    show_name(rt, b)?;
-    show_name(rt, c)?;
-    show_name(rt, d)
+impl Display for Shown<Update> {
+    fn fmt<W: fmt::Write>(&self, f: &mut fmt::Formatter<W>) -> fmt::Result {
+        let Update {
+            cell,
+            link,
+            target,
+            stage,
+        } = self.0;
+        let target = OrDash(target);
+        match stage {
+            Stage::Looked(draft) => {
+                let draft = OrDash(draft.map(Links));
+                write!(
+                    f,
+                    "looked cell {cell} link {link} target {target} draft {draft}"
+                )
+            }
+            Stage::Noted => write!(f, "noted cell {cell} link {link} target {target}"),
+        }
+    }
+}
+
+impl Display for Shown<Card> {
+    fn fmt<W: fmt::Write>(&self, f: &mut fmt::Formatter<W>) -> fmt::Result {
+        let card = self.0;
+        let places = card.places.map(OrDash);
+        let places = Listed(&places);
+        let snoop = Shown(card.snoop);
+        let logging = Shown(card.logging);
+        let birth = card.birth;
+        let last = card.last;
+        let update = OrDash(card.update.map(Shown));
+        write!(
+            f,
+            "places {places} snoop {snoop} logging {logging} birth {birth} last {last} update {update}"
+        )
+    }
+}
+
+impl Display for Shown<Record> {
+    fn fmt<W: fmt::Write>(&self, f: &mut fmt::Formatter<W>) -> fmt::Result {
+        let record = self.0;
+        let serial = record.serial;
+        let colour = record.colour;
+        let links = Links(record.links);
+        write!(f, "serial {serial} colour {colour} links {links} marks")?;
+        if record.waiting {
+            write!(f, " waiting")?;
+        }
+        if record.snooped {
+            write!(f, " snooped")?;
+        }
+        match record.log.map(Links) {
+            Some(links) => write!(f, " logged log {links}"),
+            None if record.waiting || record.snooped => Ok(()),
+            None => write!(f, " -"),
+        }
+    }
 }
 
 // Prints the whole store.
 pub(crate) fn show_store<C: Copy>(rt: &HostRuntime, store: &Store<'_, C>) -> anyhow::Result<()> {
     show_round(rt, store.round(), store.cards().len())?;
-    show_free(rt, store)?;
-    show_waiting(rt, store)?;
-    let mut number: usize = 0;
-    for card in store.cards() {
-        print!(rt; "card {number}")?;
-        show_card(rt, card)?;
-        number = number.saturating_add(1);
+    let most = store.cells().len();
+    show_list(rt, "free", most, |i| store.free_cell(i))?;
+    show_list(rt, "waiting", most, |i| store.waiting_cell(i))?;
+    for (number, card) in store.cards().iter().enumerate() {
+        let card = Shown(*card);
+        println!(rt; "card {number} {card}")?;
     }
-    number = 0;
-    for cell in store.cells() {
-        print!(rt; "cell {number}")?;
-        show_cell(rt, cell)?;
-        number = number.saturating_add(1);
+    for (number, cell) in store.cells().iter().enumerate() {
+        match cell.map(Shown) {
+            Some(record) => println!(rt; "cell {number} {record}")?,
+            None => println!(rt; "cell {number} free")?,
+        }
     }
     Ok(())
 }
 
 fn show_round(rt: &HostRuntime, round: RoundState, cards: usize) -> anyhow::Result<()> {
-    let phase = phase_word(round.phase);
+    let phase = round.phase;
     let order = round.order;
     let rounds = round.rounds;
-    let marked = colour_number(round.marked);
+    let marked = round.marked;
     let next = round.next;
     let sweep = round.sweep;
-    print!(rt;
-        "phase {phase} order {order} rounds {rounds} marked {marked} next {next} sweep {sweep} answered"
+    let answered: Vec<usize> = (0..cards)
+        .zip(round.answered)
+        .filter_map(|(card, answered)| answered.then_some(card))
+        .collect(rt.alloc())?;
+    let answered = Listed(answered.as_slice());
+    println!(rt;
+        "phase {phase} order {order} rounds {rounds} marked {marked} next {next} sweep {sweep} answered {answered}"
     )?;
-    let mut none = true;
-    for (card, answered) in round.answered.iter().take(cards).enumerate() {
-        if *answered {
-            print!(rt; " {card}")?;
-            none = false;
-        }
-    }
-    if none {
-        print!(rt; " -")?;
-    }
-    println!(rt; "")?;
     Ok(())
 }
 
-fn show_free<C: Copy>(rt: &HostRuntime, store: &Store<'_, C>) -> anyhow::Result<()> {
-    print!(rt; "free")?;
-    if store.free_cell(0).is_none() {
-        print!(rt; " -")?;
-    }
-    for i in 0..store.cells().len() {
-        let Some(cell) = store.free_cell(i) else {
-            break;
-        };
-        print!(rt; " {cell}")?;
-    }
-    println!(rt; "")?;
-    Ok(())
-}
-
-fn show_waiting<C: Copy>(rt: &HostRuntime, store: &Store<'_, C>) -> anyhow::Result<()> {
-    print!(rt; "waiting")?;
-    if store.waiting_cell(0).is_none() {
-        print!(rt; " -")?;
-    }
-    for i in 0..store.cells().len() {
-        let Some(cell) = store.waiting_cell(i) else {
-            break;
-        };
-        print!(rt; " {cell}")?;
-    }
-    println!(rt; "")?;
-    Ok(())
-}
-
-fn show_card(rt: &HostRuntime, card: &Card) -> anyhow::Result<()> {
-    print!(rt; " places")?;
-    show_names(rt, &card.places)?;
-    let snoop = switch_word(card.snoop);
-    let logging = switch_word(card.logging);
-    let birth = colour_number(card.birth);
-    let last = card.last;
-    print!(rt; " snoop {snoop} logging {logging} birth {birth} last {last} update")?;
-    match card.update {
-        Some(update) => show_update(rt, update)?,
-        None => print!(rt; " -")?,
-    }
-    println!(rt; "")?;
-    Ok(())
-}
-
-fn show_update(rt: &HostRuntime, update: Update) -> anyhow::Result<()> {
-    let stage = match update.stage {
-        Stage::Looked(_) => "looked",
-        Stage::Noted => "noted",
-    };
-    let cell = update.cell;
-    let link = update.link;
-    print!(rt; " {stage} cell {cell} link {link} target")?;
-    show_name(rt, update.target)?;
-    if let Stage::Looked(draft) = update.stage {
-        print!(rt; " draft")?;
-        match draft {
-            Some(links) => show_links(rt, links)?,
-            None => print!(rt; " -")?,
-        }
-    }
-    Ok(())
-}
-
-fn show_cell(rt: &HostRuntime, cell: &Cell) -> anyhow::Result<()> {
-    match cell {
-        None => println!(rt; " free")?,
-        Some(record) => show_record(rt, record)?,
-    }
-    Ok(())
-}
-
-fn show_record(rt: &HostRuntime, record: &Record) -> anyhow::Result<()> {
-    let serial = record.serial;
-    let colour = colour_number(record.colour);
-    print!(rt; " serial {serial} colour {colour} links")?;
-    show_links(rt, record.links)?;
-    print!(rt; " marks")?;
-    if record.waiting {
-        print!(rt; " waiting")?;
-    }
-    if record.snooped {
-        print!(rt; " snooped")?;
-    }
-    match record.log {
-        Some(links) => {
-            print!(rt; " logged log")?;
-            show_links(rt, links)?;
-        }
-        None => {
-            if !record.waiting && !record.snooped {
-                print!(rt; " -")?;
-            }
-        }
-    }
-    println!(rt; "")?;
+// Prints a list of at most so many cells, of which `cell_at` gives each by its place in the list.
+fn show_list<F: Fn(usize) -> Option<u16>>(
+    rt: &HostRuntime,
+    name: &str,
+    most: usize,
+    cell_at: F,
+) -> anyhow::Result<()>
+    requires { (state : F) (i : _) → F.pre state i }
+{
+    let cells: Vec<u16> = (0..most).map_while(cell_at).collect(rt.alloc())?;
+    let cells = Listed(cells.as_slice());
+    println!(rt; "{name} {cells}")?;
     Ok(())
 }

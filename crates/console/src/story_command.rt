@@ -1,7 +1,8 @@
 //! A commissioning day, told and played.
-use crate::desk::Desk;
+use crate::desk::{Desk, Manner};
 use crate::lives::live;
 use crate::source::{Item, Source};
+use std::slice::Iter;
 
 // A script. A line that begins with '=' is a sentence about the calls after it.
 static DAY: [&str; 104] = [
@@ -111,23 +112,20 @@ static DAY: [&str; 104] = [
     "read 1 5",
 ];
 
-/// The day so far: the number of the next line.
+/// The day so far: the lines that are to come.
 #[derive(Drop)]
 struct Day {
-    next: usize,
+    lines: Iter<'static, &'static str>,
 }
 
 impl Source for Day {
-    fn next_item(&mut self) -> anyhow::Result<Item<'_>> {
-        if self.next >= DAY.len() {
-            return Ok(Item::End);
-        }
-        let line = DAY[self.next];
-        self.next = self.next.saturating_add(1);
-        match line.strip_prefix("= ") {
-            Some(sentence) => Ok(Item::Sentence(sentence)),
-            None => Ok(Item::Words(line)),
-        }
+    fn next_item(&mut self) -> anyhow::Result<Option<Item<'_>>> {
+        Ok(
+            self.lines.next().map(|line| match line.strip_prefix("= ") {
+                Some(sentence) => Item::Sentence(sentence),
+                None => Item::Words(line),
+            }),
+        )
     }
 }
 
@@ -136,7 +134,6 @@ pub(crate) fn run_story(rt: &HostRuntime) -> anyhow::Result<()> {
     println!(rt;
         "A commissioning day. Each call stands with its answer after an arrow; 'refused' and a number says why not."
     )?;
-    let desk = Desk { rt, story: true };
-    let mut day = Day { next: 0 };
-    live(desk, &mut day)
+    let manner = Manner::Story;
+    live(Desk { rt, manner }, &mut Day { lines: DAY.iter() })
 }

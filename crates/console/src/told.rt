@@ -1,58 +1,30 @@
 //! What the program needs of a kind of contents: a value from words, and a value in words.
+use crate::unheard::Unheard;
 use contents::{Effect, Event};
-use refusal::Refusal;
-use sheet::{Fault, effect_said, event_said, number_in};
+use sheet::{effect_said, event_said, number_in};
+use std::fmt;
 
-/// What words say of a value.
-pub enum Value<C> {
-    Is(C),
-    Refused(Refusal),
-    Unknown,
-}
-
-pub trait Told: Copy {
-    fn said(words: &[&str]) -> Value<Self>
-    where
-        Self: Sized;
-
-    fn show(&self, rt: &HostRuntime) -> anyhow::Result<()>;
-}
-
-fn value_of<C: Copy>(said: Result<C, Fault>) -> Value<C> {
-    match said {
-        Ok(value) => Value::Is(value),
-        Err(Fault::Refused(refusal)) => Value::Refused(refusal),
-        Err(_) => Value::Unknown,
-    }
+pub trait Told: Sized + Copy + fmt::Display {
+    /// The value that words say.
+    fn said(words: &[&str]) -> Result<Self, Unheard>;
 }
 
 impl Told for Event {
-    fn said(words: &[&str]) -> Value<Event> {
-        match words {
-            [moment, device, zone, kind] => match number_in(kind) {
-                Some(_) => value_of(event_said(moment, device, zone, kind)),
-                None => Value::Unknown,
-            },
-            _ => Value::Unknown,
-        }
-    }
-
-    fn show(&self, rt: &HostRuntime) -> anyhow::Result<()> {
-        print!(rt; "{self}")?;
-        Ok(())
+    // The kind is a number here, and no word.
+    fn said(words: &[&str]) -> Result<Event, Unheard> {
+        let [moment, device, zone, kind] = words else {
+            return Err(Unheard::Unknown);
+        };
+        number_in(kind).ok_or(Unheard::Unknown)?;
+        Ok(event_said(moment, device, zone, kind)?)
     }
 }
 
 impl Told for Effect {
-    fn said(words: &[&str]) -> Value<Effect> {
-        match words {
-            [relay, delay] => value_of(effect_said(relay, delay)),
-            _ => Value::Unknown,
-        }
-    }
-
-    fn show(&self, rt: &HostRuntime) -> anyhow::Result<()> {
-        print!(rt; "{self}")?;
-        Ok(())
+    fn said(words: &[&str]) -> Result<Effect, Unheard> {
+        let [relay, delay] = words else {
+            return Err(Unheard::Unknown);
+        };
+        Ok(effect_said(relay, delay)?)
     }
 }

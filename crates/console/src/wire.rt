@@ -27,21 +27,10 @@ impl Wire {
         store: &mut Store<'_, C>,
         calls: &[Call<C>],
     ) -> Result<Vec<Answer<C>>, AllocError> {
-        match *self {
-            Wire::Straight(direct) => {
-                let mut line = direct;
-                let answers = play(heap, store, &mut line, calls);
-                let after = Wire::Straight(line);
-                *self = after;
-                answers
-            }
-            Wire::Lossy(leaky) => {
-                let mut line = leaky;
-                let answers = play(heap, store, &mut line, calls);
-                let after = Wire::Lossy(line);
-                *self = after;
-                answers
-            }
+        // kept: `play` is generic over the line, and a `dyn Line` could not carry the facts that its contract states
+        match self {
+            Wire::Straight(line) => play(heap, store, line, calls),
+            Wire::Lossy(line) => play(heap, store, line, calls),
         }
     }
 }

@@ -3,3 +3,4 @@ pub mod Waiting
 pub mod Cards
 pub mod Rounds
 pub mod Acts
+pub mod Words

@@ -8,13 +8,9 @@ fn main(rt: HostRuntime) -> anyhow::Result<()> {
 }
 
 fn command(rt: &HostRuntime) -> anyhow::Result<()> {
-    let mut args = env::args(rt)?;
-    let _program = args.next();
-    match args.next() {
-        Some(word) => match word.as_str() {
-            "bench" => speed::run(rt),
-            other => console::run(rt, other),
-        },
+    match env::args(rt)?.nth(1).as_deref() {
         None => console::run(rt, "help"),
+        Some("bench") => speed::run(rt),
+        Some(other) => console::run(rt, other),
     }
 }
