@@ -61,8 +61,7 @@ pub(crate) fn run_help(rt: &HostRuntime) -> anyhow::Result<()> {
     print!(rt; "Kinds of events:")?;
     for kind in Kind::ALL {
         let number = kind.number();
-        let word = kind.word();
-        print!(rt; " {number} {word}")?;
+        print!(rt; " {number} {kind}")?;
     }
     println!(rt; "")?;
     Ok(())

@@ -21,10 +21,10 @@ impl fmt::Display for BadLine {
     }
 }
 
-/// The lines of standard input.
+/// The lines of standard input. Once a line had no end there is no more input.
 #[derive(Drop)]
 pub struct Lines {
-    input: BufReader<Stdin>,
+    input: Option<BufReader<Stdin>>,
     bytes: Vec<u8>,
     number: u64,
 }
@@ -32,7 +32,7 @@ pub struct Lines {
 impl Lines {
     pub(crate) fn new(rt: &HostRuntime) -> anyhow::Result<Self> {
         Ok(Lines {
-            input: BufReader::new(rt.alloc(), rt.stdin())?,
+            input: Some(BufReader::new(rt.alloc(), rt.stdin())?),
             bytes: Vec::new(rt.alloc()),
             number: 0,
         })
@@ -41,15 +41,21 @@ impl Lines {
     // The next line with its number, or none at the end. Of a line that is too long no more than its beginning is kept.
     pub(crate) fn next_line(&mut self) -> anyhow::Result<Option<(u64, Result<&str, BadLine>)>> {
         self.bytes.clear();
-        let mut beginning = self.input.by_ref().take(LONGEST as u64 + 1);
+        let Some(input) = &mut self.input else {
+            return Ok(None);
+        };
+        let mut beginning = input.by_ref().take(LONGEST as u64 + 1);
         if beginning.read_until(b'\n', &mut self.bytes)? == 0 {
             return Ok(None);
         }
         self.number = self.number.saturating_add(1);
-        self.bytes.pop_if(|byte| *byte == b'\n');
+        let ended = self.bytes.pop_if(|byte| *byte == b'\n').is_some();
         if self.bytes.len() > LONGEST {
-            self.input.skip_until(b'\n')?;
+            input.skip_until(b'\n')?;
             return Ok(Some((self.number, Err(BadLine::TooLong))));
+        }
+        if !ended {
+            self.input = None;
         }
         Ok(Some((self.number, text_of(self.bytes.as_slice()))))
     }
