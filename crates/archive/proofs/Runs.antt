@@ -41,3 +41,8 @@ pub tab-take : {X : Type 0} (f : ℕ → X) (m n : ℕ) (d : X) → m ≤ n → 
 tab-take f m n d h =
     tab_is f m d (take m (tab f n)) (length-take-le m (tab f n) (omega (arith, tab-length f n)))
     (λ k l. get_or-take m (tab f n) k d l ∙ tab-at f n k d (omega arith))
+
+pub tab_same : {X : Type 0} (f g : ℕ → X) (n : ℕ) → ((k : ℕ) → k < n → f k ≡ g k) → tab f n ≡ tab g n
+unfolding run
+tab_same f g zero h = refl
+tab_same f g (suc n) h = ap (λ l. l ++ f n ∷ []) (tab_same f g n (λ k l. h k (omega arith))) ∙ ap (λ x. tab g n ++ x ∷ []) (h n (omega arith))
