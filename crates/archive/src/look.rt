@@ -9,6 +9,7 @@ ghost use Rattle.archive.specs.Reading.{links_of, places_of, cell_in};
 use crate::bytes::{blank, bytes_at, names, unnamed};
 use crate::head::Head;
 use crate::pages::Pages;
+use crate::parts::blocks_for;
 use machine::types::{Cell, Colour, Record};
 
 impl Head {
@@ -42,13 +43,14 @@ impl Head {
 
 impl<'a> Pages<'a> {
     /// The bytes as an archive of a kind, if their head and their length are right.
+    #[tactic(auto, unfolding(crate::specs::Rules::head_right))]
     pub(crate) fn of(bytes: &'a [u8], kind: u16) -> Option<Pages<'a>>
         requires { 512 ≤ length bytes.now }
         ensures is { is_some result ≡ (head_right kind bytes.now && length bytes.now == 512 * blocks_for (cells_in bytes.now)) }
         ensures same { IfSome result (λ p. p.bytes.now ≡ bytes.now) }
     {
         let head = Head::of(bytes);
-        if head.right(kind) && bytes.len() == 512 * (1 + (head.cells as usize + 17) / 18) {
+        if head.right(kind) && bytes.len() == 512 * blocks_for(head.cells as usize) {
             Some(Pages { bytes, head })
         } else {
             None

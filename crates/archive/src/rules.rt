@@ -9,7 +9,7 @@ ghost use Rattle.archive.specs.Rules.{chunk, checks_right, framed, frames_right,
 
 use crate::bytes::{blank, bytes_at, unnamed};
 use crate::pages::Pages;
-use crate::write::part_of;
+use crate::parts::part_of;
 use contents::Contents;
 use octets::check_of;
 
