@@ -1,10 +1,7 @@
 -- The head of an archive, and what its writing is refused for.
-use Rattle.std.proofs.Common.{◌≡◌, ℕ, ◌≤◌, ◌++◌, length, refl, ap, ◌∙◌, arith}
+use Rattle.std.proofs.Common.{◌≡◌, ℕ, ◌++◌, length, refl, ap, ◌∙◌}
 use Rattle.std.specs.List.{slice_get}
-use Rattle.std.proofs.lemmas.List.{length-take}
 use Rattle.machine.specs.World.{World}
-use Rattle.store.specs.World.{world}
-use Rattle.store.specs.declared.whole.Store.{Store}
 use Rattle.archive.specs.Runs.{run}
 use Rattle.archive.specs.Layout.{front_bytes, front_of, place_bytes, head_bytes, told_free}
 
@@ -14,9 +11,6 @@ front_is code w a b c d e f p q r s t u =
     ap (λ x. front_bytes x b c d e f) p ∙ ap (λ x. front_bytes (length w.cells) x c d e f) q ∙ ap (λ x. front_bytes (length w.cells) (length w.cards) x d e f) r
     ∙ ap (λ x. front_bytes (length w.cells) (length w.cards) code x e f) s ∙ ap (λ x. front_bytes (length w.cells) (length w.cards) code w.next x f) t
     ∙ ap (front_bytes (length w.cells) (length w.cards) code w.next w.rounds) u
-
-pub few_cards : {C : Type 0} (s : Store C) → length (world s).cards ≤ 8
-few_cards s = omega (arith, length-take s.core.count s.core.cards, s.tables.3)
 
 pub front_long : {C : Type 0} (code : ℕ) (w : World C) → length (front_of code w) ≡ 18
 unfolding front_of

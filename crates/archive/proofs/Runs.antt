@@ -16,9 +16,6 @@ pub run_more : {X : Type 0} (f : ℕ → List X) (n : ℕ) → run f n ++ f n �
 unfolding run
 run_more f n = ap (run f) (sym (add-one n))
 
-pub tab_more : {X : Type 0} (f : ℕ → X) (n : ℕ) → tab f n ++ f n ∷ [] ≡ tab f (n + 1)
-tab_more f n = run_more (λ k. f k ∷ []) n
-
 pub tab-length : {X : Type 0} (f : ℕ → X) (n : ℕ) → length (tab f n) ≡ n
 unfolding run
 tab-length f zero = refl

@@ -111,7 +111,8 @@ impl Pages<'_> {
         (0..self.head.cells as usize).all(|k| self.cell_right::<C>(k))
     }
 
-    // Whether two records share a serial.
+    // Whether two records share a serial. Among the other rules this loop would lack a register, and take a third longer.
+    #[inline(never)]
     fn share(&self) -> bool
         ensures { result ≡ shared (serial_in self.now.bytes.now) self.now.head.cells }
     {
