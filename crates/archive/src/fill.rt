@@ -1,5 +1,5 @@
 //! The tables and lists of a store, filled from an archive's bytes.
-ghost use Rattle.std.specs.Prelude.{◌≡◌, ◌+◌, ◌<◌, ◌≤◌, ◌∷◌, length, vec_len, vec_capacity};
+ghost use Rattle.std.specs.Prelude.{◌≡◌, ◌<◌, ◌≤◌, length, vec_len, vec_capacity};
 ghost use Rattle.store.specs.Model.{stack};
 ghost use Rattle.archive.specs.Runs.{tab};
 ghost use Rattle.archive.specs.Bytes.{next_in, free_in};
@@ -9,15 +9,6 @@ use crate::bytes::names;
 use crate::pages::Pages;
 use contents::Contents;
 use machine::types::{Card, Cell, Colour};
-
-fn push(list: &mut Vec<u16>, x: u16)
-    requires { vec_len list.old < vec_capacity list.old }
-    ensures top { stack list.new ≡ x ∷ stack list.old }
-    ensures len { vec_len list.new ≡ vec_len list.old + 1 }
-    ensures capacity { vec_capacity list.new ≡ vec_capacity list.old }
-{
-    list.push_reserved(x);
-}
 
 impl Pages<'_> {
     pub(crate) fn fill_cells(&self, cells: &mut [Cell])
@@ -86,7 +77,7 @@ impl Pages<'_> {
         };
         if left > 0 && self.is_free(k as usize) {
             self.list_chain(self.next(k as usize), left - 1, free);
-            push(free, k);
+            free.push_reserved(k);
         }
     }
 }
