@@ -1,5 +1,5 @@
 -- A test of each number below another, step by step. Assumes nothing.
-use Rattle.std.proofs.Common.{◌≡◌, ℕ, zero, suc, ◌+◌, ◌<◌, Bool, true, false, cond, sym, refl, ap, ◌∙◌, inl, inr, add-one, arith}
+use Rattle.std.proofs.Common.{◌≡◌, ℕ, zero, suc, ◌<◌, Bool, true, false, cond, sym, refl, ap, ◌∙◌, inl, inr, arith}
 use Rattle.std.proofs.lemmas.Bool.{cases_eq, cases_Bool, false≢true}
 use Rattle.archive.specs.Runs.{every}
 
@@ -8,14 +8,6 @@ none_left true = refl
 none_left false = refl
 
 module _ (t : ℕ → Bool) where
-  pub every_zero : every t 0 ≡ true
-  unfolding every
-  every_zero = refl
-
-  pub every_more : (k : ℕ) → every t k ≡ true → t k ≡ true → every t (k + 1) ≡ true
-  unfolding every
-  every_more k h e = ap (every t) (add-one k) ∙ ap (λ b. cond b (t k) false) h ∙ e
-
   pub every_stop : (k n : ℕ) → k < n → t k ≡ false → every t n ≡ false
   unfolding every
   every_stop k zero l h = absurd (omega arith)

@@ -101,9 +101,6 @@ module _ {C : Type 0} (code : ℕ) (form : C → List ℕ) (read : List ℕ → 
             rw (t, a) (omega arith)
       ]
 
-  abbrev at_place : ℕ → ℕ → List ℕ
-  at_place s i = take i (drop s bs)
-
   spot_in : (k : ℕ) → k < n → spot k + 28 ≤ length bs
   spot_in k l = let h = A.long in let m = most in let q : k / 18 ≤ (n - 1) / 18 = omega arith in omega arith
 

@@ -119,16 +119,20 @@ pub part_of_lem : (s m a c t : ℕ) (bs : List ℕ) (F : List ℕ) → take m (d
 part_of_lem s m a c t bs F e h q =
     ap (λ i. take c (drop i bs)) q ∙ ap (take c) (sym (drop-drop a s bs)) ∙ sym (inside a c m (drop s bs) h) ∙ ap (λ t. take c (drop a t)) e
 
-un16_front : (bs : List ℕ) → un16 (take 2 bs) ≡ un16 bs
+pub un16_front : (bs : List ℕ) → un16 (take 2 bs) ≡ un16 bs
 un16_front bs = let a = get_or-take 2 bs 0 0 (omega arith) in let b = get_or-take 2 bs 1 0 (omega arith) in omega arith
 
-un32_front : (bs : List ℕ) → un32 (take 4 bs) ≡ un32 bs
+pub un32_front : (bs : List ℕ) → un32 (take 4 bs) ≡ un32 bs
 un32_front bs =
     let a = get_or-take 4 bs 0 0 (omega arith) in
     let b = get_or-take 4 bs 1 0 (omega arith) in
     let c = get_or-take 4 bs 2 0 (omega arith) in
     let d = get_or-take 4 bs 3 0 (omega arith) in
     omega arith
+
+-- a number of two bytes read in a part
+pub two_in : (s m a t : ℕ) (bs : List ℕ) (F : List ℕ) → F ≡ take m (drop s bs) → a + 2 ≤ m → t ≡ s + a → un16 (drop a F) ≡ un16 (drop t bs)
+two_in s m a t bs F e h q = sym (un16_front (drop a F)) ∙ ap un16 (sym (part_of_lem s m a 2 t bs F (sym e) h q)) ∙ un16_front (drop t bs)
 
 -- a number read where it was written
 pub two_read : (n v : ℕ) (bs : List ℕ) → v < 65536 → take 2 (drop n bs) ≡ le16 v → un16 (drop n bs) ≡ v

@@ -3,6 +3,7 @@ pub mod Runs
 pub mod Cells
 pub mod Heads
 pub mod Every
+pub mod Walks
 pub mod Zeros
 pub mod Serials
 pub mod Steps

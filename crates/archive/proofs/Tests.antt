@@ -1,5 +1,5 @@
 -- The rules of one block, one name and one cell, test by test. Assumes nothing.
-use Rattle.std.proofs.Common.{◌≡◌, ℕ, ◌-◌, ◌<◌, ◌≤◌, Bool, true, false, cond, not, eqb, ltb, List, take, drop, is_some, Option, refl, ap, ◌∙◌, arith}
+use Rattle.std.proofs.Common.{◌≡◌, ℕ, ◌-◌, ◌<◌, ◌≤◌, Bool, true, false, cond, not, eqb, ltb, List, take, drop, is_some, Option, refl, arith}
 use Rattle.std.proofs.lemmas.Bool.{eq-eqb, ne_eqb, lt-ltb, le-ltb, eqb-true, eqb-false, ltb-false, false≢true}
 use Rattle.octets.specs.Numbers.{un16}
 use Rattle.archive.specs.Runs.{every}
@@ -16,17 +16,6 @@ not_past {t = true} e = absurd (false≢true e)
 not_past {t = false} e = (refl, e)
 
 module _ (b n needs : ℕ) (bs : List ℕ) where
-  pub frame_number : (un16 bs ≡ b → ⊥) → false ≡ framed b n needs bs
-  unfolding framed
-  frame_number h = let t : eqb (un16 bs) b ≡ false = ne_eqb (un16 bs) b h in rw t
-
-  pub frame_count : un16 bs ≡ b → (un16 (drop 2 bs) ≡ n → ⊥) → false ≡ framed b n needs bs
-  unfolding framed
-  frame_count e h =
-      let t : eqb (un16 bs) b ≡ true = eq-eqb (un16 bs) b e in
-      let s : eqb (un16 (drop 2 bs)) n ≡ false = ne_eqb (un16 (drop 2 bs)) n h in
-      rw (t, s)
-
   pub frame_is : un16 bs ≡ b → un16 (drop 2 bs) ≡ n → is_blank (take (504 - needs) (drop needs (drop 4 bs))) ≡ framed b n needs bs
   unfolding framed
   frame_is e h =
@@ -49,10 +38,6 @@ module _ (bs : List ℕ) (n v : ℕ) where
   pub name_none : v ≡ 0 → true ≡ name_right bs n v
   unfolding name_right
   name_none e = let t : eqb v 0 ≡ true = eq-eqb v 0 e in rw t
-
-  pub name_past : (v ≡ 0 → ⊥) → n < v → false ≡ name_right bs n v
-  unfolding name_right
-  name_past h l = let t : eqb v 0 ≡ false = ne_eqb v 0 h in let s : ltb n v ≡ true = lt-ltb n v l in rw (t, s)
 
   pub name_is : (v ≡ 0 → ⊥) → v ≤ n → not (eqb (serial_in bs (v - 1)) 0) ≡ name_right bs n v
   unfolding name_right
@@ -122,11 +107,6 @@ limits_hold n c l d k s r h =
     let y : ltb s 2 ≡ false = le-ltb s 2 h.next in
     let z : ltb 1073741823 r ≡ false = le-ltb 1073741823 r h.rounds in
     rw (p, q, u, v, w, x, y, z)
-
-pub limits_same : (n c l d k s r n' c' l' d' s' r' : ℕ) → n ≡ n' → c ≡ c' → l ≡ l' → d ≡ d' → s ≡ s' → r ≡ r' → limits n c l d k s r ≡ limits n' c' l' d' k s' r'
-limits_same n c l d k s r n' c' l' d' s' r' p q u v w x =
-    ap (λ m. limits m c l d k s r) p ∙ ap (λ m. limits n' m l d k s r) q ∙ ap (λ m. limits n' c' m d k s r) u
-    ∙ ap (λ m. limits n' c' l' m k s r) v ∙ ap (λ m. limits n' c' l' d' k m r) w ∙ ap (limits n' c' l' d' k s') x
 
 pub head_tells : (kind : ℕ) (bs : List ℕ) → head_right kind bs ≡ true → Limits (cells_in bs) (cards_in bs) (links_in bs) (code_in bs) kind (next_serial_in bs) (rounds_in bs)
 unfolding head_right

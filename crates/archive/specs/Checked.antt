@@ -16,6 +16,6 @@ Tells NoMemory o = o ≡ None
 -- the check of some bytes and two tables: a reading of just these, or the reason and the tables untouched
 abbrev pub Checked : {C : Type 0} → ℕ → (List ℕ → Option C) → List ℕ → List Cell → List C → Result (Reading C) (NotMade C) → Type 0
 Checked code read bs cells contents (Ok p) =
-    (refusal_of code read bs (length cells) (length contents) ≡ None) × (p.found.bytes.now ≡ bs) × (p.found.cells.now ≡ cells) × (p.found.contents.now ≡ contents)
+    (refusal_of code read bs (length cells) (length contents) ≡ None) × (p.pages.bytes.now ≡ bs) × (p.cells.now ≡ cells) × (p.contents.now ≡ contents)
 Checked code read bs cells contents (Err e) =
     Tells e.why (refusal_of code read bs (length cells) (length contents)) × (e.cells.now ≡ cells) × (e.contents.now ≡ contents)

@@ -22,6 +22,10 @@ unfoldable pub after : List ℕ → ℕ → Name
 after [] k = None
 after (x ∷ l) k = cond (x == k) (slice_get l 0) (after l k)
 
+-- names as they are written, one after the other
+abbrev pub names_bytes : List Cell → List Name → List ℕ
+names_bytes h ns = run (λ i. le16 (told h (slice_index_or ns i None))) (length ns)
+
 abbrev pub link_bytes : List Cell → List Name → List ℕ
 link_bytes h ls = le16 (told h (slice_index_or ls 0 None)) ++ (le16 (told h (slice_index_or ls 1 None)) ++ (le16 (told h (slice_index_or ls 2 None)) ++ le16 (told h (slice_index_or ls 3 None))))
 

@@ -2,9 +2,9 @@ pub mod Runs
 pub mod Layout
 pub mod Writing
 pub mod Bytes
+pub mod Heads
 pub mod Rules
 pub mod Reading
-pub mod Found
 pub mod Checked
 pub mod Good
 pub mod Laws

@@ -2,9 +2,11 @@
 //! of contents.
 #![tactic(auto)]
 
+mod bytes;
 mod fill;
-mod found;
+mod head;
 mod look;
+mod pages;
 mod parts;
 mod read;
 mod reading;

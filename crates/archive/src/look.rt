@@ -1,134 +1,150 @@
 //! What an archive's bytes say, place by place.
-ghost use Rattle.std.specs.Prelude.{◌≡◌, ◌+◌, ◌*◌, ◌<◌, ◌≤◌, length, drop};
-ghost use Rattle.octets.specs.Numbers.{un16, un32};
-ghost use Rattle.archive.specs.Bytes.{unname, place_in, serial_in, form_in, link_in, rest_in, next_in, free_in};
-ghost use Rattle.archive.specs.Rules.{Sized, is_blank};
-ghost use Rattle.archive.specs.Reading.{links_of, cell_in, places_of};
+ghost use Rattle.std.specs.Prelude.{◌≡◌, ◌+◌, ◌*◌, ◌<◌, ◌≤◌, length, take, drop, is_some, IfSome, ◌==◌, ◌&&◌};
+ghost use Rattle.archive.specs.Heads.{head_in};
+ghost use Rattle.archive.specs.Layout.{blocks_for};
+ghost use Rattle.archive.specs.Bytes.{cells_in, spot, serial_in, form_in, rest_in, next_in, free_in};
+ghost use Rattle.archive.specs.Rules.{is_blank, chunk, head_right, limits};
+ghost use Rattle.archive.specs.Reading.{links_of, places_of, cell_in};
 
+use crate::bytes::{blank, bytes_at, names, unnamed};
+use crate::head::Head;
+use crate::pages::Pages;
+use crate::parts::blocks_for;
 use machine::types::{Cell, Colour, Record};
 
-pub(crate) fn at_two(bytes: &[u8], at: usize) -> u16
-    requires { at + 2 ≤ length bytes.now }
-    ensures { result ≡ un16 (drop at bytes.now) }
-{
-    u16::from_le_bytes([bytes[at], bytes[at + 1]])
-}
-
-pub(crate) fn at_four(bytes: &[u8], at: usize) -> u32
-    requires { at + 4 ≤ length bytes.now }
-    ensures { result ≡ un32 (drop at bytes.now) }
-{
-    u32::from_le_bytes([bytes[at], bytes[at + 1], bytes[at + 2], bytes[at + 3]])
-}
-
-pub(crate) fn blank(bytes: &[u8]) -> bool
-    ensures { result ≡ is_blank bytes.now }
-{
-    for b in bytes {
-        if *b != 0 {
-            return false;
+impl Head {
+    fn of(bytes: &[u8]) -> Head
+        requires { 512 ≤ length bytes.now }
+        ensures { result ≡ head_in bytes.now }
+    {
+        Head {
+            cells: u16::from_le_bytes(bytes_at(bytes, 4)),
+            cards: u16::from_le_bytes(bytes_at(bytes, 6)),
+            links: u16::from_le_bytes(bytes_at(bytes, 8)),
+            code: u16::from_le_bytes(bytes_at(bytes, 10)),
+            next: u32::from_le_bytes(bytes_at(bytes, 12)),
+            rounds: u32::from_le_bytes(bytes_at(bytes, 16)),
+            first: u16::from_le_bytes(bytes_at(bytes, 20)),
         }
     }
-    true
-}
 
-pub(crate) fn unnamed(v: u16) -> Option<u16>
-    ensures { result ≡ unname v }
-{
-    if v == 0 { None } else { Some(v - 1) }
-}
-
-pub(crate) fn serial_in(bytes: &[u8], n: usize, k: usize) -> u32
-    requires { (Sized n (length bytes.now)) × (k < n) }
-    ensures { result ≡ serial_in bytes.now k }
-{
-    at_four(bytes, 512 * (k / 18 + 1) + 4 + 28 * (k % 18))
-}
-
-pub(crate) fn link_in(bytes: &[u8], n: usize, k: usize, i: usize) -> u16
-    requires { (Sized n (length bytes.now)) × ((k < n) × (i < 4)) }
-    ensures { result ≡ link_in bytes.now k i }
-{
-    at_two(bytes, 512 * (k / 18 + 1) + 4 + 28 * (k % 18) + 20 + 2 * i)
-}
-
-pub(crate) fn form_in(bytes: &[u8], n: usize, k: usize) -> [u8; 16]
-    requires { (Sized n (length bytes.now)) × (k < n) }
-    ensures { result ≡ form_in bytes.now k }
-{
-    let mut form = [0u8; 16];
-    let at = 512 * (k / 18 + 1) + 4 + 28 * (k % 18) + 4;
-    form.copy_from_slice(&bytes[at..at + 16]);
-    form
-}
-
-// Whether the six bytes after link 0 of cell k are zeros.
-pub(crate) fn rest_blank(bytes: &[u8], n: usize, k: usize) -> bool
-    requires { (Sized n (length bytes.now)) × (k < n) }
-    ensures { result ≡ is_blank (rest_in bytes.now k) }
-{
-    let at = 512 * (k / 18 + 1) + 4 + 28 * (k % 18) + 22;
-    blank(&bytes[at..at + 6])
-}
-
-pub(crate) fn place_in(bytes: &[u8], i: usize) -> u16
-    requires { (i < 64) × (512 ≤ length bytes.now) }
-    ensures { result ≡ place_in bytes.now i }
-{
-    at_two(bytes, 22 + 2 * i)
-}
-
-pub(crate) fn is_free(bytes: &[u8], n: usize, k: usize) -> bool
-    requires { Sized n (length bytes.now) }
-    ensures { result ≡ free_in bytes.now n k }
-{
-    k < n && serial_in(bytes, n, k) == 0
-}
-
-pub(crate) fn links_of(bytes: &[u8], n: usize, k: usize) -> [Option<u16>; 4]
-    requires { (Sized n (length bytes.now)) × (k < n) }
-    ensures { result ≡ links_of bytes.now k }
-{
-    [
-        unnamed(link_in(bytes, n, k, 0)),
-        unnamed(link_in(bytes, n, k, 1)),
-        unnamed(link_in(bytes, n, k, 2)),
-        unnamed(link_in(bytes, n, k, 3)),
-    ]
-}
-
-// Cell k as it is after reading.
-pub(crate) fn cell_in(bytes: &[u8], n: usize, k: usize) -> Cell
-    requires { (Sized n (length bytes.now)) × (k < n) }
-    ensures { result ≡ cell_in bytes.now k }
-{
-    let serial = serial_in(bytes, n, k);
-    if serial == 0 {
-        return None;
+    // Whether the numbers are within their limits, with the code of a kind.
+    fn right(&self, kind: u16) -> bool
+        ensures { result ≡ limits self.now.cells self.now.cards self.now.links self.now.code kind self.now.next self.now.rounds }
+    {
+        matches!(self.cells, 1..=4096)
+            && matches!(self.cards, 1..=8)
+            && self.links == 4
+            && self.code == kind
+            && self.next >= 2
+            && self.rounds <= 1_073_741_823
     }
-    let links = links_of(bytes, n, k);
-    Some(Record {
-        serial,
-        links,
-        colour: Colour::Zero,
-        waiting: false,
-        snooped: false,
-        log: None,
-    })
 }
 
-pub(crate) fn places_of(bytes: &[u8], c: usize) -> [Option<u16>; 8]
-    requires { (c < 8) × (512 ≤ length bytes.now) }
-    ensures { result ≡ places_of bytes.now c }
-{
-    [
-        unnamed(place_in(bytes, 8 * c)),
-        unnamed(place_in(bytes, 8 * c + 1)),
-        unnamed(place_in(bytes, 8 * c + 2)),
-        unnamed(place_in(bytes, 8 * c + 3)),
-        unnamed(place_in(bytes, 8 * c + 4)),
-        unnamed(place_in(bytes, 8 * c + 5)),
-        unnamed(place_in(bytes, 8 * c + 6)),
-        unnamed(place_in(bytes, 8 * c + 7)),
-    ]
+impl<'a> Pages<'a> {
+    /// The bytes as an archive of a kind, if their head and their length are right.
+    #[tactic(auto, unfolding(crate::specs::Rules::head_right))]
+    pub(crate) fn of(bytes: &'a [u8], kind: u16) -> Option<Pages<'a>>
+        requires { 512 ≤ length bytes.now }
+        ensures is { is_some result ≡ (head_right kind bytes.now && length bytes.now == 512 * blocks_for (cells_in bytes.now)) }
+        ensures same { IfSome result (λ p. p.bytes.now ≡ bytes.now) }
+    {
+        let head = Head::of(bytes);
+        if head.right(kind) && bytes.len() == 512 * blocks_for(head.cells as usize) {
+            Some(Pages { bytes, head })
+        } else {
+            None
+        }
+    }
+
+    /// The 512 bytes of block b.
+    pub(crate) fn block(&self, b: usize) -> &'a [u8]
+        requires { b < blocks_for self.now.head.cells }
+        ensures is { result.now ≡ chunk self.now.bytes.now b }
+        ensures long { length result.now ≡ 512 }
+    {
+        &self.bytes[512 * b..512 * b + 512]
+    }
+
+    // The 28 bytes of cell k.
+    fn record(&self, k: usize) -> &'a [u8]
+        requires { k < self.now.head.cells }
+        ensures is { result.now ≡ take 28 (drop (spot k) self.now.bytes.now) }
+        ensures long { length result.now ≡ 28 }
+    {
+        let at = 4 + 28 * (k % 18);
+        &self.block(k / 18 + 1)[at..at + 28]
+    }
+
+    pub(crate) fn serial(&self, k: usize) -> u32
+        requires { k < self.now.head.cells }
+        ensures { result ≡ serial_in self.now.bytes.now k }
+    {
+        u32::from_le_bytes(bytes_at(self.record(k), 0))
+    }
+
+    pub(crate) fn form(&self, k: usize) -> [u8; 16]
+        requires { k < self.now.head.cells }
+        ensures { result ≡ form_in self.now.bytes.now k }
+    {
+        bytes_at(self.record(k), 4)
+    }
+
+    /// The bytes of the links of cell k.
+    pub(crate) fn links(&self, k: usize) -> &'a [u8]
+        requires { k < self.now.head.cells }
+        ensures is { result.now ≡ take 8 (drop (spot k + 20) self.now.bytes.now) }
+        ensures long { length result.now ≡ 8 }
+    {
+        &self.record(k)[20..28]
+    }
+
+    /// What link 0 of cell k names: of a free cell, the free cell after it.
+    pub(crate) fn next(&self, k: usize) -> Option<u16>
+        requires { k < self.now.head.cells }
+        ensures { result ≡ next_in self.now.bytes.now k }
+    {
+        unnamed(u16::from_le_bytes(bytes_at(self.links(k), 0)))
+    }
+
+    /// Whether the six bytes after link 0 of cell k are zeros.
+    pub(crate) fn rest_blank(&self, k: usize) -> bool
+        requires { k < self.now.head.cells }
+        ensures { result ≡ is_blank (rest_in self.now.bytes.now k) }
+    {
+        blank(&self.record(k)[22..28])
+    }
+
+    pub(crate) fn is_free(&self, k: usize) -> bool
+        ensures { result ≡ free_in self.now.bytes.now self.now.head.cells k }
+    {
+        k < self.head.cells as usize && self.serial(k) == 0
+    }
+
+    /// Cell k as it is after reading.
+    pub(crate) fn cell(&self, k: usize) -> Cell
+        requires { k < self.now.head.cells }
+        ensures { result ≡ cell_in self.now.bytes.now k }
+    {
+        let serial = self.serial(k);
+        if serial == 0 {
+            return None;
+        }
+        Some(Record {
+            serial,
+            links: names(self.links(k)),
+            colour: Colour::Zero,
+            waiting: false,
+            snooped: false,
+            log: None,
+        })
+    }
+
+    /// The bytes of the places of all cards.
+    pub(crate) fn places(&self) -> &'a [u8]
+        ensures is { result.now ≡ take (16 * self.now.head.cards) (drop 22 self.now.bytes.now) }
+        ensures long { length result.now ≡ 16 * self.now.head.cards }
+    {
+        &self.bytes[22..22 + 16 * self.head.cards as usize]
+    }
 }

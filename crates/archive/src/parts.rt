@@ -1,108 +1,130 @@
 //! The parts of an archive as they are written.
-ghost use Rattle.std.specs.Prelude.{◌≡◌, ◌+◌, ◌*◌, ◌<◌, ◌≤◌, ◌++◌, length, take};
-ghost use Rattle.machine.specs.World.{World, place};
+ghost use Rattle.std.specs.Prelude.{◌≡◌, ◌+◌, ◌*◌, ◌<◌, ◌≤◌, ◌++◌, length};
+ghost use Rattle.arrayvec.specs.ArrayVec.{array_vec_len};
 ghost use Rattle.store.specs.World.{world};
-ghost use Rattle.archive.specs.Layout.{told, told_free, after, link_bytes, record_bytes, free_bytes, cell_bytes, place_bytes};
+ghost use Rattle.archive.specs.Layout.{told, told_free, after, free_bytes, cell_bytes, front_of, place_bytes, blocks_for, part_of, names_bytes};
+ghost use Rattle.archive.specs.Runs.{run};
 
+use arrayvec::ArrayVec;
 use contents::Contents;
-use machine::types::{Card, Cell};
+use machine::types::Cell;
 use store::Store;
 
-// Puts `part` at a place of `out`. The contract speaks of the front alone: a block is filled from its start on.
-pub(crate) fn put(out: &mut [u8], at: usize, part: &[u8])
-    requires { at + length part.now ≤ length out.old }
-    ensures { take (at + length part.now) out.new ≡ take at out.old ++ part.now }
+/// What a block has after its number and count, as it is put together.
+pub(crate) type Body = ArrayVec<u8, 504>;
+
+/// The number of blocks for n cells.
+pub(crate) fn blocks_for(n: usize) -> usize
+    requires { n ≤ 4096 }
+    ensures { result ≡ blocks_for n }
 {
-    out[at..at + part.len()].copy_from_slice(part);
+    1 + (n + 17) / 18
+}
+
+/// How many of n cells stand in block b of the cells.
+pub(crate) fn part_of(n: usize, b: usize) -> usize
+    requires few { n ≤ 4096 }
+    requires some { 18 * b < n }
+    ensures { result ≡ part_of n b }
+{
+    18.min(n - 18 * b)
+}
+
+// Appends to a body. There is room, so it cannot fail.
+fn add(body: &mut Body, part: &[u8])
+    requires { array_vec_len body.old + length part.now ≤ 504 }
+    ensures { body.new.items ≡ body.old.items ++ part.now }
+{
+    let _ = body.try_extend_from_slice(part);
 }
 
 // A name as it is written: a cell's number plus one; none, or a cell without a record, as 0.
-pub(crate) fn told(cells: &[Cell], name: Option<u16>) -> u16
+fn told(cells: &[Cell], name: Option<u16>) -> u16
     requires { length cells.now ≤ 4096 }
     ensures { result ≡ told cells.now name }
 {
-    let Some(x) = name else {
-        return 0;
-    };
-    if x as usize >= cells.len() {
-        return 0;
-    }
-    match cells[x as usize] {
-        None => 0,
-        Some(_) => x + 1,
-    }
+    name.map_or(0, |x| match cells.get(x as usize) {
+        Some(Some(_)) => x + 1,
+        _ => 0,
+    })
 }
 
 // A free cell's number plus one, and 0 for none.
-pub(crate) fn told_free(n: usize, name: Option<u16>) -> u16
+fn told_free(n: usize, name: Option<u16>) -> u16
     requires { n ≤ 4096 }
     ensures { result ≡ told_free n name }
 {
-    match name {
-        None => 0,
-        Some(x) => if (x as usize) < n { x + 1 } else { 0 },
+    name.map_or(0, |x| if (x as usize) < n { x + 1 } else { 0 })
+}
+
+// Appends some names, as each is written.
+fn add_names(body: &mut Body, cells: &[Cell], names: &[Option<u16>])
+    requires few { length cells.now ≤ 4096 }
+    requires room { array_vec_len body.old + 2 * length names.now ≤ 504 }
+    ensures { body.new.items ≡ body.old.items ++ names_bytes cells.now names.now }
+{
+    for name in names {
+        add(body, &told(cells, *name).to_le_bytes());
     }
-}
-
-pub(crate) fn link_bytes(cells: &[Cell], links: [Option<u16>; 4]) -> [u8; 8]
-    requires { length cells.now ≤ 4096 }
-    ensures { result ≡ link_bytes cells.now links }
-{
-    let [a0, a1] = told(cells, links[0]).to_le_bytes();
-    let [b0, b1] = told(cells, links[1]).to_le_bytes();
-    let [c0, c1] = told(cells, links[2]).to_le_bytes();
-    let [d0, d1] = told(cells, links[3]).to_le_bytes();
-    [a0, a1, b0, b1, c0, c1, d0, d1]
-}
-
-pub(crate) fn write_record(out: &mut [u8], serial: u32, form: &[u8; 16], links: &[u8; 8])
-    requires { length out.old ≡ 28 }
-    ensures { out.new ≡ record_bytes serial form.now links.now }
-{
-    put(out, 0, &serial.to_le_bytes());
-    put(out, 4, form);
-    put(out, 20, links);
-}
-
-pub(crate) fn write_free(out: &mut [u8], next: u16)
-    requires { length out.old ≡ 28 }
-    ensures { out.new ≡ free_bytes next }
-{
-    put(out, 0, &[0; 20]);
-    put(out, 20, &next.to_le_bytes());
-    put(out, 22, &[0; 6]);
 }
 
 // The free cell after cell k of the free list.
-pub(crate) fn after<C: Copy>(store: &Store<'_, C>, k: u16) -> Option<u16>
+fn after<C: Copy>(store: &Store<'_, C>, k: u16) -> Option<u16>
     ensures { result ≡ after (world store.now).free k }
 {
-    for i in 0..store.cells().len() {
-        let Some(x) = store.free_cell(i) else {
-            return None;
-        };
-        if x == k {
-            return store.free_cell(i + 1);
-        }
-    }
-    None
+    let at = (0..store.cells().len()).find(|i| store.free_cell(*i) == Some(k))?;
+    store.free_cell(at + 1)
 }
 
-// Writes the 28 bytes of cell k.
-pub(crate) fn write_cell<C: Contents>(out: &mut [u8], store: &Store<'_, C>, k: usize)
-    requires { (length out.old ≡ 28) × (k < length (world store.now).cells) }
-    ensures { out.new ≡ cell_bytes C.form (world store.now) k }
+fn add_free(body: &mut Body, next: u16)
+    requires { array_vec_len body.old + 28 ≤ 504 }
+    ensures { body.new.items ≡ body.old.items ++ free_bytes next }
+{
+    add(body, &[0; 20]);
+    add(body, &next.to_le_bytes());
+    add(body, &[0; 6]);
+}
+
+/// Appends the 28 bytes of cell k.
+pub(crate) fn add_cell<C: Contents>(body: &mut Body, store: &Store<'_, C>, k: usize)
+    requires cell { k < length (world store.now).cells }
+    requires room { array_vec_len body.old + 28 ≤ 504 }
+    ensures is { body.new.items ≡ body.old.items ++ cell_bytes C.form (world store.now) k }
+    ensures long { array_vec_len body.new ≡ array_vec_len body.old + 28 }
 {
     let cells = store.cells();
     match cells[k] {
-        None => {
-            let next = after(store, k as u16);
-            write_free(out, told_free(cells.len(), next));
+        None => add_free(body, told_free(cells.len(), after(store, k as u16))),
+        Some(record) => {
+            add(body, &record.serial.to_le_bytes());
+            add(body, &store.contents()[k].form());
+            add_names(body, cells, &record.links);
         }
-        Some(r) => {
-            let links = link_bytes(cells, r.links);
-            let form = store.contents()[k].form();
-            write_record(out, r.serial, &form, &links);
-        }
+    }
+}
+
+/// Appends the numbers of the head.
+pub(crate) fn add_front<C: Contents>(body: &mut Body, store: &Store<'_, C>)
+    requires { array_vec_len body.old + 18 ≤ 504 }
+    ensures { body.new.items ≡ body.old.items ++ front_of C.number (world store.now) }
+{
+    let n = store.cells().len();
+    let state = store.round();
+    add(body, &(n as u16).to_le_bytes());
+    add(body, &(store.cards().len() as u16).to_le_bytes());
+    add(body, &4u16.to_le_bytes());
+    add(body, &C::tag().to_le_bytes());
+    add(body, &state.next.to_le_bytes());
+    add(body, &state.rounds.to_le_bytes());
+    add(body, &told_free(n, store.free_cell(0)).to_le_bytes());
+}
+
+/// Appends the places of all cards.
+pub(crate) fn add_places<C: Copy>(body: &mut Body, store: &Store<'_, C>)
+    requires { array_vec_len body.old + 128 ≤ 504 }
+    ensures { body.new.items ≡ body.old.items ++ run (place_bytes (world store.now)) (length (world store.now).cards) }
+{
+    for card in store.cards() {
+        add_names(body, store.cells(), &card.places);
     }
 }

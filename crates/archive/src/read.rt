@@ -1,84 +1,40 @@
 //! Reading an archive: a check that refuses, and then a making that cannot.
-ghost use Rattle.std.specs.Prelude.{◌≡◌, ◌/◌, length};
+ghost use Rattle.std.specs.Prelude.{◌≡◌, ◌/◌, length, IfOk};
+ghost use Rattle.std.specs.Result.{result_err};
 ghost use Rattle.store.specs.World.{world};
 ghost use Rattle.archive.specs.Rules.{refusal_of};
 ghost use Rattle.archive.specs.Reading.{world_in};
 ghost use Rattle.archive.specs.Checked.{Checked};
-ghost use Rattle.archive.specs.Found.{Sizes, Tables, Numbers, Room};
 ghost use Rattle.store.specs.Restored.{Fitting, Counted, Listed, restored};
 
-use crate::fill::{cards_in, fill_cells, fill_contents, list_chain};
-use crate::found::Found;
-use crate::look::{at_four, at_two, unnamed};
+use crate::bytes::unnamed;
+use crate::pages::Pages;
 use crate::reading::Reading;
-use crate::rules::{archive_right, checks_right, count_free};
+use crate::rules::checks_right;
 use contents::Contents;
 use machine::types::Cell;
 use refusal::Refusal;
 use std::alloc::Global;
 use store::{NotMade, Restore, Stock, Store, Why};
 
-// What reading is refused with, if it is.
-fn refused<C: Contents>(bytes: &[u8], cells: usize, contents: usize) -> Option<Refusal>
-    ensures { result ≡ refusal_of C.number C.read bytes.now cells contents }
+// The bytes as an archive that can be read into tables of these lengths, or what that is refused with.
+#[tactic(auto, unfolding(crate::specs::Rules::refusal_of))]
+fn readable<C: Contents>(bytes: &[u8], cells: usize, contents: usize) -> Result<Pages<'_>, Refusal>
+    ensures is { result_err result ≡ refusal_of C.number C.read bytes.now cells contents }
+    ensures same { IfOk result (λ p. (p.bytes.now ≡ bytes.now) × (cells ≡ p.head.cells) × (contents ≡ p.head.cells)) }
 {
-    if bytes.len() == 0 {
-        return Some(Refusal::BadLength);
-    }
-    if bytes.len() % 512 != 0 {
-        return Some(Refusal::BadLength);
+    if bytes.is_empty() || bytes.len() % 512 != 0 {
+        return Err(Refusal::BadLength);
     }
     if !checks_right(bytes) {
-        return Some(Refusal::BadCheck);
+        return Err(Refusal::BadCheck);
     }
-    if !archive_right::<C>(bytes) {
-        return Some(Refusal::BadArchive);
+    let pages = Pages::archive::<C>(bytes).ok_or(Refusal::BadArchive)?;
+    let n = pages.head.cells as usize;
+    if cells != n || contents != n {
+        return Err(Refusal::OutOfRange);
     }
-    let n = at_two(bytes, 4);
-    if cells != n as usize {
-        return Some(Refusal::OutOfRange);
-    }
-    if contents != n as usize {
-        return Some(Refusal::OutOfRange);
-    }
-    None
-}
-
-// Fills the tables and lists what else the store is made of.
-fn stock_of<'a, 'b, C: Contents>(found: Found<'a, 'b, C>) -> Stock<'a, C>
-    requires { (Sizes found) × ((Tables found) × ((Numbers found) × (Room found))) }
-    ensures is { restored result ≡ world_in C.read found.entry.bytes.now found.entry.contents.now }
-    ensures fitting { Fitting result }
-    ensures counted { Counted result }
-    ensures listed { Listed result }
-{
-    let Found {
-        bytes,
-        cells,
-        contents,
-        mut free,
-        waiting,
-    } = found;
-    let n = cells.len();
-    fill_cells(cells, bytes);
-    fill_contents(contents, bytes);
-    let left = count_free(bytes, n);
-    let first = unnamed(at_two(bytes, 20));
-    list_chain(bytes, n, first, left, &mut free);
-    let count = at_two(bytes, 6);
-    let cards = cards_in(bytes);
-    let next = at_four(bytes, 12);
-    let rounds = at_four(bytes, 16);
-    Stock {
-        cells,
-        contents,
-        cards,
-        count: count as usize,
-        free,
-        waiting,
-        next,
-        rounds,
-    }
+    Ok(pages)
 }
 
 impl<'a, 'b, C: Contents> Reading<'a, 'b, C> {
@@ -92,13 +48,16 @@ impl<'a, 'b, C: Contents> Reading<'a, 'b, C> {
     ) -> Result<Reading<'a, 'b, C>, NotMade<'a, C>>
         ensures { Checked C.number C.read bytes.now cells.old contents.old result }
     {
-        if let Some(why) = refused::<C>(bytes, cells.len(), contents.len()) {
-            return Err(NotMade {
-                why: Why::Refused(why),
-                cells,
-                contents,
-            });
-        }
+        let pages = match readable::<C>(bytes, cells.len(), contents.len()) {
+            Ok(pages) => pages,
+            Err(why) => {
+                return Err(NotMade {
+                    why: Why::Refused(why),
+                    cells,
+                    contents,
+                });
+            }
+        };
         let Ok(free) = Vec::with_capacity(heap, cells.len()) else {
             return Err(NotMade {
                 why: Why::NoMemory,
@@ -114,30 +73,56 @@ impl<'a, 'b, C: Contents> Reading<'a, 'b, C> {
             });
         };
         Ok(Reading {
-            found: Found {
-                bytes,
-                cells,
-                contents,
-                free,
-                waiting,
-            },
+            pages,
+            cells,
+            contents,
+            free,
+            waiting,
         })
     }
 
     /// The number of the archive's blocks.
     pub fn blocks(&self) -> u32
-        ensures { result ≡ length self.now.found.bytes.now / 512 }
+        ensures { result ≡ length self.now.pages.bytes.now / 512 }
     {
-        (self.found.bytes.len() / 512) as u32
+        (self.pages.bytes.len() / 512) as u32
+    }
+
+    // Fills the tables and lists what else the store is made of.
+    fn stock(self) -> Stock<'a, C>
+        ensures is { restored result ≡ world_in C.read self.entry.pages.bytes.now self.entry.contents.now }
+        ensures fitting { Fitting result }
+        ensures counted { Counted result }
+        ensures listed { Listed result }
+    {
+        let Reading {
+            pages,
+            cells,
+            contents,
+            mut free,
+            waiting,
+        } = self;
+        pages.fill_cells(cells);
+        pages.fill_contents(contents);
+        pages.list_chain(unnamed(pages.head.first), pages.count_free(), &mut free);
+        Stock {
+            cells,
+            contents,
+            cards: pages.cards(),
+            count: pages.head.cards as usize,
+            free,
+            waiting,
+            next: pages.head.next,
+            rounds: pages.head.rounds,
+        }
     }
 
     /// Fills the tables and makes the store. It cannot fail.
     pub fn make(self) -> Store<'a, C>
-        ensures { world result ≡ world_in C.read self.entry.found.bytes.now self.entry.found.contents.now }
+        ensures { world result ≡ world_in C.read self.entry.pages.bytes.now self.entry.contents.now }
     {
-        let Reading { found } = self;
         Restore {
-            stock: stock_of(found),
+            stock: self.stock(),
         }
         .make()
     }

@@ -1,31 +1,52 @@
-use Rattle.std.proofs.Common.{◌≤◌, length, drop, sym, ap, ◌∙◌, add-one, arith}
-use Rattle.store.specs.World.{world}
+use Rattle.std.proofs.Common.{◌≡◌, ℕ, ◌+◌, ◌<◌, ◌≤◌, List, length, Some, None, Option, sym, ap, ◌∙◌, subst, add-one, arith, rules, tests}
 use Rattle.std.specs.List.{slice_get}
+use Rattle.std.specs.Option.{MatchOption}
+use Rattle.std.proofs.lemmas.Iterator.{first_from_Range}
+use Rattle.store.specs.World.{world}
 use Rattle.archive.specs.Layout.{after}
-use Rattle.archive.proofs.Free.{after_end, after_here, after_on, after_all, free_short}
+use Rattle.archive.proofs.Free.{after_first, after_never, free_short, none_some}
 use Rattle.archive.proofs.parts.after.Goals as goal
 
-pub returns-in_default : goal.returns-in_default
-returns-in_default g c =
-    let l = (world c.args.store.now).free in
-    sym (c.loop-i.invariant ∙ after_end l c.loop-i.i c.args.k (sym c.free_cell.ensures ∙ c.in_default.is))
+-- what a search through the list finds
+abbrev Found : List ℕ → ℕ → ℕ → Option ℕ → Type 0
+Found l k n o = MatchOption o ((j : ℕ) → 0 ≤ j → j < n → slice_get l j ≡ Some k → ⊥) (λ i. (0 ≤ i) × (i < n) × (slice_get l i ≡ Some k) × ((j : ℕ) → 0 ≤ j → j < i → slice_get l j ≡ Some k → ⊥))
 
-pub returns-then-x-k : goal.returns-then-x-k
-returns-then-x-k g c =
-    let l = (world c.args.store.now).free in
-    c.free_cell-then-x-k.ensures ∙ ap (slice_get l) (add-one c.loop-i.i)
-    ∙ sym (c.loop-i.invariant ∙ after_here l c.loop-i.i c.in-Some.x c.args.k (sym c.in-Some.is ∙ c.free_cell.ensures) c.if-x-k.true)
+nothing : (l : List ℕ) (k n : ℕ) (o : Option ℕ) → length l ≤ n → o ≡ None → Found l k n o → after l k ≡ None
+nothing l k n None m e f = after_never l k n m (λ j h. f j (omega arith) h)
+nothing l k n (Some i) m e f = none_some i (sym e)
 
-pub loop-i-preserved : goal.loop-i-preserved
-loop-i-preserved g c =
+something : (l : List ℕ) (k n : ℕ) (o : Option ℕ) (i : ℕ) → o ≡ Some i → Found l k n o → (i < n) × (slice_get l (i + 1) ≡ after l k)
+something l k n None i e f = none_some i e
+something l k n (Some j) i e f =
+    let q : j ≡ i = cc in
+    subst (λ i. (i < n) × (slice_get l (i + 1) ≡ after l k)) q (f.1, ap (slice_get l) (add-one j) ∙ sym (after_first l k j f.2 (λ i h. f.3 i (omega arith) h)))
+
+pub returns-in_err-at : goal.returns-in_err-at
+returns-in_err-at g c =
     let l = (world c.args.store.now).free in
-    c.loop-i.invariant ∙ after_on l c.loop-i.i c.in-Some.x c.args.k (sym c.in-Some.is ∙ c.free_cell.ensures) c.if-x-k.false
-    ∙ ap (λ i. after (drop i l) c.args.k) (sym (add-one c.loop-i.i))
+    let k = c.args.k in
+    let n = length c.cells.result.now in
+    let e = ap length c.cells.ensures in
+    let short = free_short c.args.store.now in
+    let found = first_from_Range _ _ _ c.find.result (λ i. slice_get l i ≡ Some k) (λ i. slice_get l i ≡ Some k → ⊥) c.find.ensures.ran (λ x q b. search (rules, tests)) (λ x q b. search (rules, tests)) in
+    let none : c.from_residual.result ≡ None = search rules in
+    none ∙ sym (nothing l k n c.find.result (omega arith) c.in_err-at.was found)
+
+pub overflow_add-at : goal.overflow_add-at
+overflow_add-at g c =
+    let l = (world c.args.store.now).free in
+    let k = c.args.k in
+    let n = length c.cells.result.now in
+    let e = ap length c.cells.ensures in
+    let few = c.args.store.now.tables.2 in
+    let found = first_from_Range _ _ _ c.find.result (λ i. slice_get l i ≡ Some k) (λ i. slice_get l i ≡ Some k → ⊥) c.find.ensures.ran (λ x q b. search (rules, tests)) (λ x q b. search (rules, tests)) in
+    let low = (something l k n c.find.result c.in_ok-at.at c.in_ok-at.was found).0 in
+    omega arith
 
 pub returns : goal.returns
 returns g c =
     let l = (world c.args.store.now).free in
-    let short = free_short c.args.store.now in
-    let e = ap length c.cells-i-end.ensures in
-    let h : length l ≤ c.loop-i.i = omega arith in
-    sym (c.loop-i.invariant ∙ after_all l c.loop-i.i c.args.k h)
+    let k = c.args.k in
+    let n = length c.cells.result.now in
+    let found = first_from_Range _ _ _ c.find.result (λ i. slice_get l i ≡ Some k) (λ i. slice_get l i ≡ Some k → ⊥) c.find.ensures.ran (λ x q b. search (rules, tests)) (λ x q b. search (rules, tests)) in
+    c.free_cell.ensures ∙ (something l k n c.find.result c.in_ok-at.at c.in_ok-at.was found).1

@@ -1,0 +1,9 @@
+use Rattle.std.proofs.Common.{eqb, ◌∙◌, rules, tests}
+use Rattle.std.proofs.lemmas.Iterator.{YieldsList-from_slice}
+use Rattle.std.proofs.lemmas.Iterator.Search.{all_from_yields_List}
+use Rattle.archive.proofs.Walks.{all_blank}
+use Rattle.archive.proofs.bytes.blank.Goals as goal
+
+pub returns : goal.returns
+returns c =
+    all_from_yields_List (λ b. eqb b 0) _ _ _ c.all.ensures.ran (YieldsList-from_slice c.args.bytes.now cc) (λ x b q k. search (rules, tests)) ∙ all_blank c.args.bytes.now

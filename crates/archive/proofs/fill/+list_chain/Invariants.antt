@@ -1,4 +1,0 @@
-use Rattle.archive.proofs.fill.+list_chain.Given as goal
-
-abbrev pub decreases-list_chain : goal.decreases-list_chain
-decreases-list_chain l = l.left

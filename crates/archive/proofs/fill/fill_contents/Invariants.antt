@@ -1,6 +1,0 @@
-use Rattle.std.proofs.Common.{◌≡◌}
-use Rattle.archive.specs.Reading.{value_in, filled}
-use Rattle.archive.proofs.fill.fill_contents.Given as goal
-
-abbrev pub invariant-loop-k : goal.invariant-loop-k
-invariant-loop-k g l = l.contents ≡ filled (value_in g.C.Contents.read l.bytes) l.initial.contents l.k

@@ -1,7 +1,0 @@
-use Rattle.std.proofs.Common.{rules}
-use Rattle.archive.specs.Runs.{run}
-use Rattle.archive.proofs.write.places_bytes.Goals as goal
-
-pub returns : goal.returns
-unfolding run
-returns c = search rules
