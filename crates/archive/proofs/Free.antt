@@ -36,4 +36,4 @@ stack-length v = length-reverse (vec_items v) ∙ sym v.ok.0
 
 -- the free list has no more cells than the store
 pub free_short : {C : Type 0} (s : Store C) → length (world s).free ≤ length (world s).cells
-free_short s = omega (arith, stack-length s.core.free, spares_most (world s).cells, s.numbers.0)
+free_short s = omega (arith, stack-length s.free, spares_most (world s).cells, s.numbers.0)

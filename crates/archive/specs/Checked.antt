@@ -2,8 +2,8 @@
 use Rattle.std.specs.Prelude.{◌≡◌, ℕ, List, length, Some, None, Ok, Err, Option, Result}
 use Rattle.refusal.specs.declared.kinds.Refusal.{Refusal}
 use Rattle.machine.specs.World.{Cell}
-use Rattle.store.specs.declared.plan.Why.{Why}
-use Rattle.store.specs.declared.plan.Why.TheVariants.{Refused, NoMemory}
+use Rattle.store.specs.declared.why.Why.{Why}
+use Rattle.store.specs.declared.why.Why.TheVariants.{Refused, NoMemory}
 use Rattle.store.specs.declared.plan.NotMade.{NotMade}
 use Rattle.archive.specs.Rules.{refusal_of}
 use Rattle.archive.specs.declared.reading.Reading.{Reading}

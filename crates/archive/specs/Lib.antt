@@ -8,3 +8,4 @@ pub mod Reading
 pub mod Checked
 pub mod Good
 pub mod Laws
+pub mod Ready

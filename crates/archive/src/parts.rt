@@ -106,14 +106,14 @@ pub(crate) fn add_cell<C: Contents>(body: &mut Body, store: &Store<'_, C>, k: us
 /// Appends the numbers of the head.
 pub(crate) fn add_front<C: Contents>(body: &mut Body, store: &Store<'_, C>)
     requires { array_vec_len body.old + 18 ≤ 504 }
-    ensures { body.new.items ≡ body.old.items ++ front_of C.number (world store.now) }
+    ensures { body.new.items ≡ body.old.items ++ front_of C.CODE (world store.now) }
 {
     let n = store.cells().len();
     let state = store.round();
     add(body, &(n as u16).to_le_bytes());
     add(body, &(store.cards().len() as u16).to_le_bytes());
     add(body, &4u16.to_le_bytes());
-    add(body, &C::tag().to_le_bytes());
+    add(body, &C::CODE.to_le_bytes());
     add(body, &state.next.to_le_bytes());
     add(body, &state.rounds.to_le_bytes());
     add(body, &told_free(n, store.free_cell(0)).to_le_bytes());

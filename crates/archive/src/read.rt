@@ -1,26 +1,28 @@
 //! Reading an archive: a check that refuses, and then a making that cannot.
-ghost use Rattle.std.specs.Prelude.{◌≡◌, ◌/◌, length, IfOk};
+ghost use Rattle.std.specs.Prelude.{◌≡◌, ◌/◌, length, IfOk, IfErr};
 ghost use Rattle.std.specs.Result.{result_err};
 ghost use Rattle.store.specs.World.{world};
 ghost use Rattle.archive.specs.Rules.{refusal_of};
 ghost use Rattle.archive.specs.Reading.{world_in};
-ghost use Rattle.archive.specs.Checked.{Checked};
+ghost use Rattle.archive.specs.Checked.{Checked, Tells};
+ghost use Rattle.archive.specs.Ready.{Ready};
 ghost use Rattle.store.specs.Restored.{Fitting, Counted, Listed, restored};
 
 use crate::bytes::unnamed;
 use crate::pages::Pages;
 use crate::reading::Reading;
 use crate::rules::checks_right;
+use arrayvec::ArrayVec;
 use contents::Contents;
 use machine::types::Cell;
 use refusal::Refusal;
 use std::alloc::Global;
-use store::{NotMade, Restore, Stock, Store, Why};
+use store::{Lists, NotMade, Restore, Stock, Store, Why};
 
 // The bytes as an archive that can be read into tables of these lengths, or what that is refused with.
 #[tactic(auto, unfolding(crate::specs::Rules::refusal_of))]
 fn readable<C: Contents>(bytes: &[u8], cells: usize, contents: usize) -> Result<Pages<'_>, Refusal>
-    ensures is { result_err result ≡ refusal_of C.number C.read bytes.now cells contents }
+    ensures is { result_err result ≡ refusal_of C.CODE C.read bytes.now cells contents }
     ensures same { IfOk result (λ p. (p.bytes.now ≡ bytes.now) × (cells ≡ p.head.cells) × (contents ≡ p.head.cells)) }
 {
     if bytes.is_empty() || bytes.len() % 512 != 0 {
@@ -37,6 +39,20 @@ fn readable<C: Contents>(bytes: &[u8], cells: usize, contents: usize) -> Result<
     Ok(pages)
 }
 
+// The same, with memory for the lists of the store.
+fn ready<C: Contents>(
+    heap: Global,
+    bytes: &[u8],
+    cells: usize,
+    contents: usize,
+) -> Result<(Pages<'_>, Lists), Why>
+    ensures ready { IfOk result (λ r. Ready C.CODE C.read bytes.now cells contents r.0 r.1) }
+    ensures refused { IfErr result (λ why. Tells why (refusal_of C.CODE C.read bytes.now cells contents)) }
+{
+    let pages = readable::<C>(bytes, cells, contents)?;
+    Ok((pages, Lists::with_room(heap, cells)?))
+}
+
 impl<'a, 'b, C: Contents> Reading<'a, 'b, C> {
     /// Checks the bytes of an archive and the two tables that its store is to be read into. Nothing is written; where the
     /// archive cannot be read the tables are handed back.
@@ -46,39 +62,21 @@ impl<'a, 'b, C: Contents> Reading<'a, 'b, C> {
         cells: &'a mut [Cell],
         contents: &'a mut [C],
     ) -> Result<Reading<'a, 'b, C>, NotMade<'a, C>>
-        ensures { Checked C.number C.read bytes.now cells.old contents.old result }
+        ensures { Checked C.CODE C.read bytes.now cells.old contents.old result }
     {
-        let pages = match readable::<C>(bytes, cells.len(), contents.len()) {
-            Ok(pages) => pages,
-            Err(why) => {
-                return Err(NotMade {
-                    why: Why::Refused(why),
-                    cells,
-                    contents,
-                });
-            }
-        };
-        let Ok(free) = Vec::with_capacity(heap, cells.len()) else {
-            return Err(NotMade {
-                why: Why::NoMemory,
+        match ready::<C>(heap, bytes, cells.len(), contents.len()) {
+            Ok((pages, lists)) => Ok(Reading {
+                pages,
                 cells,
                 contents,
-            });
-        };
-        let Ok(waiting) = Vec::with_capacity(heap, cells.len()) else {
-            return Err(NotMade {
-                why: Why::NoMemory,
+                lists,
+            }),
+            Err(why) => Err(NotMade {
+                why,
                 cells,
                 contents,
-            });
-        };
-        Ok(Reading {
-            pages,
-            cells,
-            contents,
-            free,
-            waiting,
-        })
+            }),
+        }
     }
 
     /// The number of the archive's blocks.
@@ -99,17 +97,18 @@ impl<'a, 'b, C: Contents> Reading<'a, 'b, C> {
             pages,
             cells,
             contents,
-            mut free,
-            waiting,
+            lists,
         } = self;
+        let Lists { mut free, waiting } = lists;
         pages.fill_cells(cells);
         pages.fill_contents(contents);
         pages.list_chain(unnamed(pages.head.first), pages.count_free(), &mut free);
+        let mut cards = ArrayVec::from(pages.cards());
+        cards.truncate(pages.head.cards as usize);
         Stock {
             cells,
             contents,
-            cards: pages.cards(),
-            count: pages.head.cards as usize,
+            cards,
             free,
             waiting,
             next: pages.head.next,

@@ -7,12 +7,12 @@ use contents::Contents;
 /// was read is one where runs may start; and reading what a store writes gives that store at rest. Answers the code of the
 /// kind.
 pub fn archive_laws<C: Contents>() -> u16
-    ensures forth { Forth C.number C.form C.read }
-    ensures once { Once C.number C.read }
-    ensures starts { Starts C.number C.read }
-    ensures back { Back C.number C.form C.read }
+    ensures forth { Forth C.CODE C.form C.read }
+    ensures once { Once C.CODE C.read }
+    ensures starts { Starts C.CODE C.read }
+    ensures back { Back C.CODE C.form C.read }
 {
-    C::tag()
+    C::CODE
 }
 
 /// Every store that a run of calls leads to can be archived: it meets what the law `back` asks.

@@ -30,7 +30,7 @@ fn seal(out: &mut [u8], number: u16, count: u16, body: &[u8])
 
 fn write_head<C: Contents>(out: &mut [u8], store: &Store<'_, C>)
     requires { length out.old ≡ 512 }
-    ensures { out.new ≡ archive_block C.number C.form (world store.now) 0 }
+    ensures { out.new ≡ archive_block C.CODE C.form (world store.now) 0 }
 {
     let mut body = Body::new();
     add_front(&mut body, store);
@@ -41,7 +41,7 @@ fn write_head<C: Contents>(out: &mut [u8], store: &Store<'_, C>)
 fn write_cells<C: Contents>(out: &mut [u8], store: &Store<'_, C>, b: usize)
     requires block { length out.old ≡ 512 }
     requires some { 18 * b < length (world store.now).cells }
-    ensures { out.new ≡ archive_block C.number C.form (world store.now) (b + 1) }
+    ensures { out.new ≡ archive_block C.CODE C.form (world store.now) (b + 1) }
 {
     let count = part_of(store.cells().len(), b);
     let mut body = Body::new();
@@ -54,7 +54,7 @@ fn write_cells<C: Contents>(out: &mut [u8], store: &Store<'_, C>, b: usize)
 // Writes all blocks.
 fn write_blocks<C: Contents>(store: &Store<'_, C>, out: &mut [u8])
     requires { length out.old ≡ 512 * blocks_for (length (world store.now).cells) }
-    ensures { out.new ≡ archive_of C.number C.form (world store.now) }
+    ensures { out.new ≡ archive_of C.CODE C.form (world store.now) }
 {
     let n = store.cells().len();
     write_head(&mut out[0..512], store);
@@ -77,7 +77,7 @@ pub fn blocks_of<C: Copy>(store: &Store<'_, C>) -> u32
 /// Writes the archive of a store over `out`, and answers the number of its blocks. Refused with 4 where an update is in
 /// hand on a card, with 7 outside Rest, and with 14 where `out` is not of the archive's length; `out` then stays as it was.
 pub fn write_archive<C: Contents>(store: &Store<'_, C>, out: &mut [u8]) -> Result<u32, Refusal>
-    ensures { (result, out.new) ≡ writing C.number C.form (world store.now) out.old }
+    ensures { (result, out.new) ≡ writing C.CODE C.form (world store.now) out.old }
 {
     if in_hand(store.cards()) {
         return Err(Refusal::UpdateInHand);

@@ -15,4 +15,4 @@ returns g c =
     let j5 = joined b _ _ _ _ j4 (c.add-5.ensures ∙ ap (λ y. c.add-4.new.body.items ++ y) c.to_le_bytes-5.ensures) in
     let j6 = joined b _ _ _ _ j5 (c.add-6.ensures ∙ ap (λ y. c.add-5.new.body.items ++ y) c.to_le_bytes-6.ensures) in
     let j7 = joined b _ _ _ _ j6 (c.add-7.ensures ∙ ap (λ y. c.add-6.new.body.items ++ y) c.to_le_bytes-7.ensures) in
-    j7 ∙ ap (λ y. b ++ y) (front_is g.C.Contents.number w _ _ _ _ _ _ (search rules) (search rules) (search rules) (search rules) (search rules) (search rules))
+    j7 ∙ ap (λ y. b ++ y) (front_is g.C.Contents.CODE w _ _ _ _ _ _ (search rules) (search rules) (search rules) (search rules) (search rules) (search rules))

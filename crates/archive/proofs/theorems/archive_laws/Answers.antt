@@ -8,11 +8,11 @@ pub returns : goal.returns
 returns g c =
     let D = g.C.Contents in
     let M = g.met.C.Contents in
-    let e = c.tag.ensures in
-    let small : D.number < 65536 = omega arith in
+    let e = c.CODE.ensures in
+    let small : D.CODE < 65536 = omega arith in
     record {
-      forth = forth D.number D.form D.read M.forth;
-      once = once D.number D.form D.read M.forth;
-      starts = starts D.number D.read;
-      back = back D.number D.form D.read M.sixteen M.back small;
+      forth = forth D.CODE D.form D.read M.forth;
+      once = once D.CODE D.form D.read M.forth;
+      starts = starts D.CODE D.read;
+      back = back D.CODE D.form D.read M.sixteen M.back small;
     }

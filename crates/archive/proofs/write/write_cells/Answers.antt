@@ -23,6 +23,6 @@ returns g c =
     let n = c.part_of-count.result in
     let f : ℕ → List ℕ = λ j. cell_bytes g.C.Contents.form w (18 * c.args.b + j) in
     let i : c.loop-j.j ≡ n = omega arith in
-    cells_block g.C.Contents.number g.C.Contents.form w c.args.b n c.seal.new.out _ c.seal.ensures
+    cells_block g.C.Contents.CODE g.C.Contents.form w c.args.b n c.seal.new.out _ c.seal.ensures
     (c.part_of-count.ensures ∙ ap (λ h. part_of (length h) c.args.b) c.cells.ensures)
     (c.as_slice.ensures.value ∙ c.loop-j.invariant.0 ∙ ap (run f) i)

@@ -32,5 +32,5 @@ module _ {C : Type 0} (code : ℕ) (read : List ℕ → Option C) (bs : List ℕ
 
 pub returns-clause-is : goal.returns-clause-is
 returns-clause-is g c =
-    archived c.tag.result g.C.Contents.read c.args.bytes.now _ (λ p b q. search rules) c.of.result c.filter.result c.of.ensures.is c.of.ensures.same c.filter.ensures
-    ∙ ap (λ k. archive_right k g.C.Contents.read c.args.bytes.now) c.tag.ensures
+    archived c.CODE.result g.C.Contents.read c.args.bytes.now _ (λ p b q. search rules) c.of.result c.filter.result c.of.ensures.is c.of.ensures.same c.filter.ensures
+    ∙ ap (λ k. archive_right k g.C.Contents.read c.args.bytes.now) c.CODE.ensures

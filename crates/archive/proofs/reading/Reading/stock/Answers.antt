@@ -1,4 +1,5 @@
-use Rattle.std.proofs.Common.{◌≡◌, length, take, sym, ap, ◌∙◌, arith}
+use Rattle.std.proofs.Common.{◌≡◌, length, take, sym, ap, ◌∙◌, arith, rules}
+use Rattle.arrayvec.specs.ArrayVec.{array_vec_len}
 use Rattle.machine.specs.World.{blank_card}
 use Rattle.store.specs.Model.{spares}
 use Rattle.archive.specs.Runs.{tab}
@@ -29,16 +30,18 @@ returns g c =
     let left : c.count_free.result ≡ count_free (free_in bs n) n = c.count_free.ensures.is ∙ ap (λ k. count_free (free_in bs k) k) (eh ∙ sym en) in
     let len = c.list_chain.ensures.len in
     let cap = c.list_chain.ensures.capacity in
+    let cs : c.truncate.new.self.items ≡ take h.cards c.cards.result = search rules in
+    let cn : array_vec_len c.truncate.new.self ≡ h.cards = search rules in
     record {
       is = rest_same _ _ _ _ _ _ _ _ _ _ _ _ _ _
           (c.fill_cells.ensures ∙ ap (tab (cell_in bs)) en)
           (c.fill_contents.ensures ∙ ap (filled v old) ex)
-          (ap (take h.cards) c.cards.ensures ∙ tab-take (card_in bs) h.cards 8 blank_card r.pages.cards ∙ ap (λ h. tab (card_in bs) h.cards) told)
+          (cs ∙ ap (take h.cards) c.cards.ensures ∙ tab-take (card_in bs) h.cards 8 blank_card r.pages.cards ∙ ap (λ h. tab (card_in bs) h.cards) told)
           (c.list_chain.ensures.does ∙ ap (λ f. chain_from (next_in bs) (free_in bs h.cells) f c.unnamed.result) c.count_free.ensures.is
           ∙ ap (λ k. chain_from (next_in bs) (free_in bs k) (count_free (free_in bs k) k) c.unnamed.result) eh
           ∙ ap (chain_from (next_in bs) (free_in bs (cells_in bs)) (count_free (free_in bs (cells_in bs)) (cells_in bs))) (c.unnamed.ensures ∙ ap (λ h. unname h.first) told))
-          (ap (λ h. h.cards) told) (ap (λ h. h.next) told) (ap (λ h. h.rounds) told);
+          (cn ∙ ap (λ h. h.cards) told) (ap (λ h. h.next) told) (ap (λ h. h.rounds) told);
       fitting = (omega arith, omega arith, omega arith);
-      counted = (r.pages.cards, ap length c.cards.ensures ∙ tab-length (card_in bs) 8, r.pages.rounds);
-      listed = (omega arith, omega arith, omega arith, r.waiting_empty);
+      counted = search rules;
+      listed = search rules;
     }
