@@ -1,7 +1,6 @@
 //! The rules of an archive. Each function says whether one of them is kept.
 ghost use Rattle.std.specs.Prelude.{◌≡◌, ℕ, ◌+◌, ◌*◌, ◌/◌, ◌<◌, ◌≤◌, length, drop, is_some, IfSome};
 ghost use Rattle.octets.specs.Numbers.{un16};
-ghost use Rattle.octets.specs.Block.{check_right};
 ghost use Rattle.archive.specs.Runs.{every};
 ghost use Rattle.archive.specs.Layout.{part_of};
 ghost use Rattle.archive.specs.Bytes.{cells_in, cards_in, place_in, serial_in, link_in, next_in, free_in};
@@ -11,13 +10,7 @@ use crate::bytes::{blank, bytes_at, unnamed};
 use crate::pages::Pages;
 use crate::parts::part_of;
 use contents::Contents;
-use octets::check_of;
-
-fn check_right(block: &[u8; 512]) -> bool
-    ensures { result ≡ check_right block.now }
-{
-    u32::from_le_bytes(bytes_at(block, 508)) == check_of(&block[0..508])
-}
+use octets::check_right;
 
 pub(crate) fn checks_right(bytes: &[u8]) -> bool
     ensures { result ≡ checks_right bytes.now }
