@@ -7,6 +7,8 @@ ghost use Rattle.laws.specs.Runs.{EveryRunKept};
 ghost use Rattle.laws.specs.Calls.{EveryCallPromised};
 ghost use Rattle.laws.specs.Laws.{RefusedChangesNothing, RepeatsChangeNothing, OrdersOnceInOrder, AtRestAllMarked, NamesOfFreeCells, ContentsStay};
 
+// kept: nine functions of one shape, since each stands for a theorem of its own, and a contract takes none as a parameter.
+
 /// The three lasting promises.
 pub fn promises_stand<C>() -> u8
     ensures { Promises C }

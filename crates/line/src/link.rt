@@ -17,6 +17,7 @@ pub trait Line {
 
     ghost collects: { Self → ℕ → Maybe ℕ → Self → Type 0 };
 
+    // kept: card and number are two parameters, since what is taken off a line is a number alone.
     /// Sends an order to a card.
     fn send(&mut self, card: u8, number: u32)
         ensures { sends self.old card number self.new };

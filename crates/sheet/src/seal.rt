@@ -1,8 +1,10 @@
-ghost use Rattle.std.specs.Prelude.{◌≡◌, ◌+◌, ◌*◌, ◌≤◌, ◌++◌, length, take};
+ghost use Rattle.std.specs.Prelude.{◌≡◌, ◌+◌, ◌≤◌, ◌++◌, length};
+ghost use Rattle.arrayvec.specs.ArrayVec.{array_vec_len};
 ghost use Rattle.std.specs.List.{flat_map};
 ghost use Rattle.sheet.specs.Values.{value_bytes, value_in, sealing, value_at, ReadBack};
 
 use crate::value::Value;
+use arrayvec::ArrayVec;
 use octets::write_block;
 use refusal::Refusal;
 
@@ -15,21 +17,28 @@ pub fn seal_values(out: &mut [u8], number: u16, values: &[Value]) -> Result<(), 
     if values.len() > 18 {
         return Err(Refusal::OutOfRange);
     }
-    let mut body = [0u8; 324];
-    fill(&mut body, values);
-    let count = values.len() as u16;
-    write_block(out, number, count, &body[0..18 * values.len()])
+    let body = bytes_of(values);
+    write_block(out, number, values.len() as u16, body.as_slice())
 }
 
-// The values' bytes, one after the other, at the start of the buffer.
-fn fill(body: &mut [u8], values: &[Value])
-    requires { 18 * length values.now ≤ length body.old }
-    ensures { take (18 * length values.now) body.new ≡ flat_map value_bytes values.now }
+// Appends a value's bytes to the body of a block. There is room, so it cannot fail.
+fn add(body: &mut ArrayVec<u8, 324>, value: &Value)
+    requires { array_vec_len body.old + 18 ≤ 324 }
+    ensures { body.new.items ≡ body.old.items ++ value_bytes value.now }
 {
-    for (k, value) in values.iter().enumerate() {
-        let at = 18 * k;
-        body[at..at + 18].copy_from_slice(&value.bytes());
+    let _ = body.try_extend_from_slice(&value.bytes());
+}
+
+// The values' bytes, one after the other.
+fn bytes_of(values: &[Value]) -> ArrayVec<u8, 324>
+    requires { length values.now ≤ 18 }
+    ensures { result.items ≡ flat_map value_bytes values.now }
+{
+    let mut body = ArrayVec::new();
+    for value in values {
+        add(&mut body, value);
     }
+    body
 }
 
 /// Value k of the body of a block of values, or none.

@@ -11,6 +11,7 @@ use crate::whole::Store;
 use machine::types::{Cell, Record, Stage, Update};
 use refusal::Refusal;
 
+// kept: card, place and link are plain numbers, since a call may be given any and answers each with a refusal of its own.
 impl<C: Copy> Store<'_, C> {
     // Cell x; past the table there is nothing but free cells.
     pub(crate) fn at(&self, x: u16) -> Cell

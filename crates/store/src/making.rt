@@ -32,7 +32,10 @@ fn fresh_card(rounds: u32) -> Card
 }
 
 fn fill_free(free: &mut Vec<u16>, n: usize)
-    requires { (1 ≤ n) × ((n ≤ 4096) × ((n ≤ vec_capacity free.old) × (vec_len free.old ≡ 0))) }
+    requires some { 1 ≤ n }
+    requires most { n ≤ 4096 }
+    requires room { n ≤ vec_capacity free.old }
+    requires empty { vec_len free.old ≡ 0 }
     ensures does { stack free.new ≡ count_up 1 (n - 1) }
     ensures len { vec_len free.new ≡ n - 1 }
     ensures capacity { n ≤ vec_capacity free.new }

@@ -37,7 +37,10 @@ impl<C: Copy> Store<'_, C> {
     }
 
     pub(crate) fn enter(&mut self, p: Phase)
-        requires { ((given p ≡ given self.old.state.phase + 1) × ((within self.old.state.phase ≡ 1) × ((within p ≡ 1) × (sweeping p ≡ 0)))) }
+        requires next { given p ≡ given self.old.state.phase + 1 }
+        requires from { within self.old.state.phase ≡ 1 }
+        requires to { within p ≡ 1 }
+        requires unswept { sweeping p ≡ 0 }
         ensures { world self.new ≡ enter (world self.old) p }
     {
         self.state.phase = p;

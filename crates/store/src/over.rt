@@ -106,7 +106,8 @@ impl<C: Copy> Store<'_, C> {
     // The collector's step on a reply of card c: the phase and whether the reply is to the order of now decide together.
     // kept: the rules of the project name this form, the collector's own phase matched together with the reply's number.
     fn step(&mut self, c: u8, n: u32)
-        requires { (c < length (world self.old).cards) × (ordering self.old.state.phase ≡ true) }
+        requires card { c < length (world self.old).cards }
+        requires phase { ordering self.old.state.phase ≡ true }
         ensures { world self.new ≡ hear_done (world self.old) c (Some n) }
     {
         match (self.state.phase, n == self.state.order) {

@@ -35,6 +35,7 @@ pub(crate) fn idle(card: &Card) -> Result<(), Refusal>
     }
 }
 
+// kept: this and the next two change a known card in place; a type of known card numbers would have to borrow the cards.
 pub(crate) fn heed_order(cards: &mut ArrayVec<Card, 8>, c: u8, m: Colour, n: u32)
     requires { c < array_vec_len cards.old }
     ensures does { cards.new.items ≡ alter_card cards.old.items c (heed m n) }
@@ -45,7 +46,8 @@ pub(crate) fn heed_order(cards: &mut ArrayVec<Card, 8>, c: u8, m: Colour, n: u32
 }
 
 pub(crate) fn set_place(cards: &mut ArrayVec<Card, 8>, c: u8, p: u8, v: Option<u16>)
-    requires { (c < array_vec_len cards.old) × (p < 8) }
+    requires card { c < array_vec_len cards.old }
+    requires place { p < 8 }
     ensures does { cards.new.items ≡ alter_card cards.old.items c (set_place p v) }
     ensures len { array_vec_len cards.new ≡ array_vec_len cards.old }
 {
@@ -107,7 +109,8 @@ pub(crate) fn put<T: Copy>(s: &mut [T], i: usize, x: T)
 }
 
 pub(crate) fn after_sweep(n: usize, x: u16) -> Phase
-    requires { (x < n) × (n ≤ 4096) }
+    requires inside { x < n }
+    requires most { n ≤ 4096 }
     ensures does { result ≡ (if nat_le n (x + 1) then Phase.Settle else Phase.Sweep) }
     ensures sound { (given result ≡ 4) × (within result ≡ 1) × (x + 1 + sweeping result ≤ n) }
 {
@@ -133,11 +136,7 @@ pub(crate) fn ordering(p: Phase) -> bool
 pub(crate) fn view_of(r: Record) -> [Option<u16>; 4]
     ensures { result ≡ view_of r }
 {
-    // kept: with unwrap_or a round over 4,096 records took three hundredths longer.
-    match r.log {
-        None => r.links,
-        Some(l) => l,
-    }
+    r.log.unwrap_or(r.links)
 }
 
 fn heed(m: Colour, n: u32, k: Card) -> Card

@@ -11,6 +11,7 @@ use crate::parts::put;
 use machine::types::{Cell, Colour, Record};
 
 // Changes the record in cell x, if there is one.
+// kept: here and below, the lent table and a cell's number are two parameters, since the store's other fields stay in use.
 fn alter<F: FnOnce(&mut Record)>(cells: &mut [Cell], x: u16, change: F)
     requires { F.IsAlwaysCallable change }
     ensures { AltersAt (λ r s. FnOnceReturnsAtMut F.FnOnce change r tt s) cells.old x cells.new }
