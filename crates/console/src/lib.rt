@@ -27,6 +27,7 @@ use story_command::run_story;
 
 /// Runs the command of this name.
 pub fn run(rt: &HostRuntime, command: &str) -> anyhow::Result<()> {
+    // kept: the match is the table; one of functions would have to be made of them and searched.
     match command {
         "help" => run_help(rt),
         "play" => run_play(rt),

@@ -16,6 +16,7 @@ pub(crate) fn make_call<C: Copy, L: Line>(
 ) -> Answer<C>
     ensures { ActBy L.Line.sends L.Line.fetches L.Line.replies L.Line.collects (world store.old) line.old call result (world store.new) line.new }
 {
+    // kept: each call has parameters of its own, so a match over the calls is the plainest table of them.
     let number = match call {
         Call::New(c, p, x) => store.new(c, p, x)?,
         Call::Load(c, p, i, q) => store.load(c, p, i, q)?,

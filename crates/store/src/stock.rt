@@ -2,6 +2,7 @@ use arrayvec::ArrayVec;
 use machine::types::{Card, Cell};
 
 /// The parts of a store that is put together again: its tables are filled, its cards and its free list are known.
+// kept: it shares five fields with a store, but what is asked of them is less, and callers fill it.
 #[derive(Drop)]
 pub struct Stock<'a, C> {
     pub cells: &'a mut [Cell],
