@@ -23,7 +23,7 @@ struct Life<'p, 'd, 's, C: Copy> {
 pub(crate) fn live<S: Source>(desk: Desk<'_>, source: &mut S) -> anyhow::Result<()> {
     let mut player = Player::new(desk);
     let mut wanted = until_made(source, |item| player.take_early(item))?;
-    // kept: how many stores a script makes is known by reading it alone, so nothing plainer than a count ends the loop
+    // kept: a loop over input has no measure but a count; how many stores a script makes is known by reading it alone
     for _ in 0..u64::MAX {
         wanted = match wanted {
             None => return Ok(()),
@@ -41,7 +41,7 @@ fn until_made<S: Source, F: FnMut(Item<'_>) -> anyhow::Result<Option<Wanted>>>(
 ) -> anyhow::Result<Option<Wanted>>
     requires { F.IsAlwaysCallable take }
 {
-    // kept: an item lends the line that it was read from, and an iterator's items cannot
+    // kept: a loop over input has no measure but a count, and an item lends its line, which an iterator's items cannot
     for _ in 0..u64::MAX {
         let Some(item) = source.next_item()? else {
             return Ok(None);

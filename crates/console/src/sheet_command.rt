@@ -44,7 +44,7 @@ pub(crate) fn run_sheet(rt: &HostRuntime) -> anyhow::Result<()> {
         values: Vec::new(rt.alloc()),
     };
     let mut lines = Lines::new(rt)?;
-    // kept: the library's iterators over lines hold a whole line, however long it is; `next_line` holds 401 bytes
+    // kept: a loop over input has no measure but a count, and the kit's iterators over lines hold a line of any length
     for _ in 0..u64::MAX {
         let Some((number, line)) = lines.next_line()? else {
             break;
@@ -155,7 +155,7 @@ fn tell_block(rt: &HostRuntime, (block, check): (Block<'_>, u32)) -> anyhow::Res
     let number = block.number;
     let count = block.count;
     println!(rt; "block {number}: values {count}, check {check}")?;
-    // kept: the library reads a value of a block by its number, so a range is the plainest iterator there is
+    // kept: `value_at` reads a value of a block by its number, so a range of numbers is the plainest
     for k in 0..usize::from(count) {
         match value_at(block.body, k) {
             Some(value) => println!(rt; "  {k} {value}")?,

@@ -21,7 +21,7 @@ pub fn run(rt: &HostRuntime) -> anyhow::Result<()> {
         .context("no contents to measure with")?;
     let mut cells = vec![in heap; None; 4096]?;
     let mut contents = vec![in heap; x; 4096]?;
-    // kept: a refusal hands the tables back, which the borrow rules do not let a closure of `map_err` take.
+    // kept: tried `map_err`; the borrow rules do not cover a closure that is handed the tables.
     let Ok(plan) = Plan::check(heap, cells.as_mut_slice(), contents.as_mut_slice(), 8, 1, 0) else {
         return Err(anyhow!("no store to measure"));
     };

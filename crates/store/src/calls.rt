@@ -34,6 +34,7 @@ impl<C: Copy> Store<'_, C> {
         self.record(v).and(v)
     }
 
+    // kept: the rules have calls answer 0 where there is no record.
     fn serial_of(&self, v: Option<u16>) -> u32
         ensures { result ≡ serial_of (world self.now) v }
     {

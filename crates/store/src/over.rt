@@ -12,6 +12,7 @@ use line::Line;
 use machine::types::Phase;
 use refusal::Refusal;
 
+// kept: three steps are of a card that a call has found known; a type of known cards would have to borrow them.
 impl<C: Copy> Store<'_, C> {
     fn obey(&mut self, c: u8, n: u32)
         requires { c < length (world self.old).cards }

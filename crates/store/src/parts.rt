@@ -35,7 +35,8 @@ pub(crate) fn idle(card: &Card) -> Result<(), Refusal>
     }
 }
 
-// kept: this and the next two change a known card in place; a type of known card numbers would have to borrow the cards.
+// kept: tried with `&mut Card` and by writing in the calls; over a write through the vector's deref_mut no call's proof closed.
+// So this and the next two name a known card.
 pub(crate) fn heed_order(cards: &mut ArrayVec<Card, 8>, c: u8, m: Colour, n: u32)
     requires { c < array_vec_len cards.old }
     ensures does { cards.new.items ≡ alter_card cards.old.items c (heed m n) }
@@ -142,6 +143,7 @@ pub(crate) fn view_of(r: Record) -> [Option<u16>; 4]
 fn heed(m: Colour, n: u32, k: Card) -> Card
     ensures { result ≡ heed m n k }
 {
+    // kept: an order is its number, and the rules go by its remainder by four.
     let r = n % 4;
     Card {
         snoop: match r {

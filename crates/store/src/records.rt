@@ -11,7 +11,7 @@ use crate::parts::put;
 use machine::types::{Cell, Colour, Record};
 
 // Changes the record in cell x, if there is one.
-// kept: here and below, the lent table and a cell's number are two parameters, since the store's other fields stay in use.
+// kept: a table and a cell's number are two parameters, since a type of both would be made at each call and say no more.
 fn alter<F: FnOnce(&mut Record)>(cells: &mut [Cell], x: u16, change: F)
     requires { F.IsAlwaysCallable change }
     ensures { AltersAt (λ r s. FnOnceReturnsAtMut F.FnOnce change r tt s) cells.old x cells.new }
@@ -24,6 +24,7 @@ fn alter<F: FnOnce(&mut Record)>(cells: &mut [Cell], x: u16, change: F)
     }
 }
 
+// kept: `room` follows from `does`, and is said at each so that the store's facts hold again at once.
 pub(crate) fn relink(cells: &mut [Cell], x: u16, i: u8, v: Option<u16>)
     ensures does { cells.new ≡ alter_at cells.old x (set_link i v) }
     ensures room { spares cells.new ≡ spares cells.old }

@@ -10,7 +10,7 @@ pub struct RoundState {
     pub rounds: u32,
     pub phase: Phase,
     pub order: u32,
-    // kept: always eight, one for each card that a store may have; those of cards that it has not are never read.
+    // kept: this type is public and Copy, which an ArrayVec is not; answers of cards that a store has not are never read.
     pub answered: [bool; 8],
     pub sweep: u16,
 }

@@ -9,10 +9,11 @@ use machine::types::{Card, Cell};
 /// A store of up to 4,096 records over tables that are lent to it, for any contents that can be copied.
 #[derive(Drop)]
 pub struct Store<'a, C> {
-    // kept: the tables are lent, one for the records and one for contents of any type, and records name cells by number.
+    // kept: the memory is lent, as a table of records and one of contents of any type, and records name cells by number.
     pub(crate) cells: &'a mut [Cell],
     pub(crate) contents: &'a mut [C],
     pub(crate) cards: ArrayVec<Card, 8>,
+    // kept: a call works at one list or the other, so they are two fields.
     pub(crate) free: Vec<u16>,
     pub(crate) waiting: Vec<u16>,
     pub(crate) state: RoundState,
