@@ -11,6 +11,7 @@ mod plan;
 mod records;
 mod restore;
 mod rounds;
+mod size;
 mod stock;
 mod types;
 mod views;

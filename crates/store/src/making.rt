@@ -9,12 +9,11 @@ ghost use Rattle.store.specs.World.{world};
 use crate::lists::Lists;
 use crate::parts::{newborn, push};
 use crate::plan::{NotMade, Plan};
-use crate::types::{LAST_ROUND, RoundState};
+use crate::size::Size;
+use crate::types::RoundState;
 use crate::whole::Store;
-use crate::why::Why;
 use arrayvec::ArrayVec;
 use machine::types::{Card, Cell, Colour};
-use refusal::Refusal;
 use std::alloc::Global;
 
 fn fresh_card(rounds: u32) -> Card
@@ -45,42 +44,6 @@ fn fill_free(free: &mut Vec<u16>, n: usize)
     }
 }
 
-fn is_unfit(n: usize, m: usize, cards: u8, first: u32, rounds: u32) -> bool
-    ensures { result ≡ unfit n m cards first rounds }
-{
-    bad_tables(n, m) || bad_numbers(cards, first, rounds)
-}
-
-fn bad_tables(n: usize, m: usize) -> bool
-    ensures { result ≡ bad_tables n m }
-{
-    m != n || n == 0 || n > 4096
-}
-
-fn bad_numbers(cards: u8, first: u32, rounds: u32) -> bool
-    ensures { result ≡ bad_numbers cards first rounds }
-{
-    cards == 0 || cards > 8 || first == 0 || first == u32::MAX || rounds > LAST_ROUND
-}
-
-// Memory for the lists of a store over n cells and m contents, where these numbers make one.
-fn lists_for(
-    heap: Global,
-    n: usize,
-    m: usize,
-    cards: u8,
-    first: u32,
-    rounds: u32,
-) -> Result<Lists, Why>
-    ensures made { IfOk result (λ l. (unfit n m cards first rounds ≡ false) × RoomFor n l.free l.waiting) }
-    ensures refused { IfErr result (λ w. Tells w (unfit n m cards first rounds)) }
-{
-    if is_unfit(n, m, cards, first, rounds) {
-        return Err(Why::Refused(Refusal::OutOfRange));
-    }
-    Ok(Lists::with_room(heap, n)?)
-}
-
 impl<'a, C: Copy> Plan<'a, C> {
     /// Checks what a store is to be made of: its two tables, the number of cards, the first serial and the closed rounds.
     /// Nothing is written; where no store can be made the tables are handed back.
@@ -94,7 +57,14 @@ impl<'a, C: Copy> Plan<'a, C> {
     ) -> Result<Plan<'a, C>, NotMade<'a, C>>
         ensures { Checked (record { cells = cells.old; contents = contents.old; cards = cards; first = first; rounds = rounds }) result }
     {
-        match lists_for(heap, cells.len(), contents.len(), cards, first, rounds) {
+        let size = Size {
+            cells: cells.len(),
+            contents: contents.len(),
+            cards,
+            first,
+            rounds,
+        };
+        match size.lists(heap) {
             Ok(lists) => Ok(Plan {
                 cells,
                 contents,

@@ -38,8 +38,7 @@ impl<C: Copy> Store<'_, C> {
 
     pub(crate) fn enter(&mut self, p: Phase)
         requires next { given p ≡ given self.old.state.phase + 1 }
-        requires from { within self.old.state.phase ≡ 1 }
-        requires to { within p ≡ 1 }
+        requires room { self.old.state.rounds + within p ≤ 1073741823 }
         requires unswept { sweeping p ≡ 0 }
         ensures { world self.new ≡ enter (world self.old) p }
     {

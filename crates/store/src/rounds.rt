@@ -23,9 +23,7 @@ impl<C: Copy> Store<'_, C> {
             return Err(Refusal::Exhausted);
         }
         self.state.marked = other(self.state.marked);
-        self.state.phase = Phase::Alert;
-        self.state.order += 1;
-        self.state.answered = [false; 8];
+        self.enter(Phase::Alert);
         Ok(self.state.order)
     }
 
