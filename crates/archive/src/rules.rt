@@ -48,7 +48,7 @@ impl Pages<'_> {
     fn frames_right(&self) -> bool
         ensures { result ≡ frames_right self.now.bytes.now }
     {
-        let blocks = (self.head.cells as usize + 17) / 18;
+        let blocks = (self.head.cells as usize).div_ceil(18);
         framed(self.block(0), 0, 0, 18 + 16 * self.head.cards as usize)
             && (0..blocks).all(|b| self.frame_right(b))
     }
