@@ -1,5 +1,5 @@
 //! What an archive's bytes say, place by place.
-ghost use Rattle.std.specs.Prelude.{◌≡◌, ◌+◌, ◌*◌, ◌<◌, ◌≤◌, length, take, drop, is_some, IfSome, ◌==◌, ◌&&◌};
+ghost use Rattle.std.specs.Prelude.{◌≡◌, ◌+◌, ◌*◌, ◌<◌, ◌≤◌, length, take, drop, cond, nat_lt, is_some, None, Some, IfSome, ◌==◌, ◌&&◌};
 ghost use Rattle.archive.specs.Heads.{head_in};
 ghost use Rattle.archive.specs.Layout.{blocks_for};
 ghost use Rattle.archive.specs.Bytes.{cells_in, spot, serial_in, form_in, rest_in, next_in, free_in};
@@ -13,11 +13,14 @@ use crate::parts::blocks_for;
 use machine::types::{Cell, Colour, Record};
 
 impl Head {
-    fn of(bytes: &[u8]) -> Head
-        requires { 512 ≤ length bytes.now }
-        ensures { result ≡ head_in bytes.now }
+    // The numbers, if there is a block of them.
+    fn of(bytes: &[u8]) -> Option<Head>
+        ensures { result ≡ cond (nat_lt (length bytes.now) 512) None (Some (head_in bytes.now)) }
     {
-        Head {
+        if bytes.len() < 512 {
+            return None;
+        }
+        Some(Head {
             cells: u16::from_le_bytes(bytes_at(bytes, 4)),
             cards: u16::from_le_bytes(bytes_at(bytes, 6)),
             links: u16::from_le_bytes(bytes_at(bytes, 8)),
@@ -25,7 +28,7 @@ impl Head {
             next: u32::from_le_bytes(bytes_at(bytes, 12)),
             rounds: u32::from_le_bytes(bytes_at(bytes, 16)),
             first: u16::from_le_bytes(bytes_at(bytes, 20)),
-        }
+        })
     }
 
     // Whether the numbers are within their limits, with the code of a kind.
@@ -45,11 +48,10 @@ impl<'a> Pages<'a> {
     /// The bytes as an archive of a kind, if their head and their length are right.
     #[tactic(auto, unfolding(crate::specs::Rules::head_right))]
     pub(crate) fn of(bytes: &'a [u8], kind: u16) -> Option<Pages<'a>>
-        requires { 512 ≤ length bytes.now }
         ensures is { is_some result ≡ (head_right kind bytes.now && length bytes.now == 512 * blocks_for (cells_in bytes.now)) }
         ensures same { IfSome result (λ p. p.bytes.now ≡ bytes.now) }
     {
-        let head = Head::of(bytes);
+        let head = Head::of(bytes)?;
         if head.right(kind) && bytes.len() == 512 * blocks_for(head.cells as usize) {
             Some(Pages { bytes, head })
         } else {

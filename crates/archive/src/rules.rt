@@ -165,7 +165,6 @@ impl Pages<'_> {
 
     /// The bytes as an archive that keeps all rules but those of length and check.
     pub(crate) fn archive<C: Contents>(bytes: &[u8]) -> Option<Pages<'_>>
-        requires { 512 ≤ length bytes.now }
         ensures is { is_some result ≡ archive_right C.CODE C.read bytes.now }
         ensures same { IfSome result (λ p. p.bytes.now ≡ bytes.now) }
     {
