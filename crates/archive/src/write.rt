@@ -45,8 +45,8 @@ fn write_cells<C: Contents>(out: &mut [u8], store: &Store<'_, C>, b: usize)
 {
     let count = part_of(store.cells().len(), b);
     let mut body = Body::new();
-    for j in 0..count {
-        add_cell(&mut body, store, 18 * b + j);
+    for k in 18 * b..18 * b + count {
+        add_cell(&mut body, store, k);
     }
     seal(out, b as u16 + 1, count as u16, body.as_slice());
 }
