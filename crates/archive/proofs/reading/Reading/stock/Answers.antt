@@ -6,7 +6,7 @@ use Rattle.archive.specs.Runs.{tab}
 use Rattle.archive.specs.Bytes.{cells_in, next_in, free_in, unname}
 use Rattle.archive.specs.Rules.{count_free}
 use Rattle.archive.specs.Reading.{cell_in, value_in, filled, card_in, chain_from, world_in}
-use Rattle.archive.proofs.Runs.{tab-length, tab-take}
+use Rattle.archive.proofs.Runs.{tab-take}
 use Rattle.archive.proofs.Tables.{spares_tab, rest_same}
 use Rattle.archive.proofs.reading.Reading.stock.Goals as goal
 
@@ -37,9 +37,6 @@ returns-clause-listed g c =
     let bs = r.pages.bytes.now in
     let n = length r.cells.now in
     let eh : r.pages.head.cells ≡ n = sym r.every_cell in
-    let lc : length c.fill_cells.new.cells ≡ n = ap length c.fill_cells.ensures ∙ tab-length (cell_in bs) n in
     let sp : spares c.fill_cells.new.cells ≡ count_free (free_in bs n) n = ap spares c.fill_cells.ensures ∙ spares_tab bs n n (omega arith) in
     let left : c.count_free.result ≡ count_free (free_in bs n) n = c.count_free.ensures.is ∙ ap (λ k. count_free (free_in bs k) k) eh in
-    let len = c.list_chain.ensures.len in
-    let cap = c.list_chain.ensures.capacity in
     search rules
