@@ -20,3 +20,4 @@ pub mod Rests
 pub mod Written
 pub mod Back
 pub mod Reached
+pub mod Entries

@@ -16,19 +16,8 @@ impl Pages<'_> {
         ensures { cells.new ≡ tab (cell_in self.now.bytes.now) (length cells.old) }
     {
         for (k, cell) in cells.iter_mut().enumerate() {
-            *cell = self.cell(k);
+            *cell = self.entry(k).cell();
         }
-    }
-
-    // The contents of cell k, if it has a record.
-    fn value<C: Contents>(&self, k: usize) -> Option<C>
-        requires { k < self.now.head.cells }
-        ensures { result ≡ value_in C.read self.now.bytes.now k }
-    {
-        if self.serial(k) == 0 {
-            return None;
-        }
-        C::reading(&self.form(k))
     }
 
     pub(crate) fn fill_contents<C: Contents>(&self, contents: &mut [C])
@@ -36,7 +25,7 @@ impl Pages<'_> {
         ensures { contents.new ≡ filled (value_in C.read self.now.bytes.now) contents.old (length contents.old) }
     {
         for (k, content) in contents.iter_mut().enumerate() {
-            if let Some(x) = self.value(k) {
+            if let Some(x) = self.entry(k).value() {
                 *content = x;
             }
         }
@@ -76,7 +65,7 @@ impl Pages<'_> {
             return;
         };
         if left > 0 && self.is_free(k as usize) {
-            self.list_chain(self.next(k as usize), left - 1, free);
+            self.list_chain(self.entry(k as usize).next(), left - 1, free);
             free.push_reserved(k);
         }
     }

@@ -3,6 +3,7 @@
 #![tactic(auto)]
 
 mod bytes;
+mod entry;
 mod fill;
 mod head;
 mod look;

@@ -1,23 +1,25 @@
 //! What an archive's bytes say, place by place.
-ghost use Rattle.std.specs.Prelude.{◌≡◌, ◌+◌, ◌*◌, ◌<◌, ◌≤◌, length, take, drop, is_some, IfSome, ◌==◌, ◌&&◌};
+ghost use Rattle.std.specs.Prelude.{◌≡◌, ◌*◌, ◌<◌, ◌≤◌, length, take, drop, cond, nat_lt, is_some, None, Some, IfSome, ◌==◌, ◌&&◌};
 ghost use Rattle.archive.specs.Heads.{head_in};
 ghost use Rattle.archive.specs.Layout.{blocks_for};
-ghost use Rattle.archive.specs.Bytes.{cells_in, spot, serial_in, form_in, rest_in, next_in, free_in};
-ghost use Rattle.archive.specs.Rules.{is_blank, chunk, head_right, limits};
-ghost use Rattle.archive.specs.Reading.{links_of, places_of, cell_in};
+ghost use Rattle.archive.specs.Bytes.{cells_in, free_in};
+ghost use Rattle.archive.specs.Rules.{chunk, head_right, limits};
 
-use crate::bytes::{blank, bytes_at, names, unnamed};
+use crate::bytes::bytes_at;
+use crate::entry::Entry;
 use crate::head::Head;
 use crate::pages::Pages;
 use crate::parts::blocks_for;
-use machine::types::{Cell, Colour, Record};
 
 impl Head {
-    fn of(bytes: &[u8]) -> Head
-        requires { 512 ≤ length bytes.now }
-        ensures { result ≡ head_in bytes.now }
+    // The numbers, if there is a block of them.
+    fn of(bytes: &[u8]) -> Option<Head>
+        ensures { result ≡ cond (nat_lt (length bytes.now) 512) None (Some (head_in bytes.now)) }
     {
-        Head {
+        if bytes.len() < 512 {
+            return None;
+        }
+        Some(Head {
             cells: u16::from_le_bytes(bytes_at(bytes, 4)),
             cards: u16::from_le_bytes(bytes_at(bytes, 6)),
             links: u16::from_le_bytes(bytes_at(bytes, 8)),
@@ -25,7 +27,7 @@ impl Head {
             next: u32::from_le_bytes(bytes_at(bytes, 12)),
             rounds: u32::from_le_bytes(bytes_at(bytes, 16)),
             first: u16::from_le_bytes(bytes_at(bytes, 20)),
-        }
+        })
     }
 
     // Whether the numbers are within their limits, with the code of a kind.
@@ -45,11 +47,10 @@ impl<'a> Pages<'a> {
     /// The bytes as an archive of a kind, if their head and their length are right.
     #[tactic(auto, unfolding(crate::specs::Rules::head_right))]
     pub(crate) fn of(bytes: &'a [u8], kind: u16) -> Option<Pages<'a>>
-        requires { 512 ≤ length bytes.now }
         ensures is { is_some result ≡ (head_right kind bytes.now && length bytes.now == 512 * blocks_for (cells_in bytes.now)) }
         ensures same { IfSome result (λ p. p.bytes.now ≡ bytes.now) }
     {
-        let head = Head::of(bytes);
+        let head = Head::of(bytes)?;
         if head.right(kind) && bytes.len() == 512 * blocks_for(head.cells as usize) {
             Some(Pages { bytes, head })
         } else {
@@ -66,78 +67,19 @@ impl<'a> Pages<'a> {
         &self.bytes[512 * b..512 * b + 512]
     }
 
-    // The 28 bytes of cell k.
-    fn record(&self, k: usize) -> &'a [u8]
+    /// Cell k.
+    pub(crate) fn entry(&self, k: usize) -> Entry<'a>
         requires { k < self.now.head.cells }
-        ensures is { result.now ≡ take 28 (drop (spot k) self.now.bytes.now) }
-        ensures long { length result.now ≡ 28 }
+        ensures of { result.pages ≡ self.now }
+        ensures at { result.k ≡ k }
     {
-        let at = 4 + 28 * (k % 18);
-        &self.block(k / 18 + 1)[at..at + 28]
-    }
-
-    pub(crate) fn serial(&self, k: usize) -> u32
-        requires { k < self.now.head.cells }
-        ensures { result ≡ serial_in self.now.bytes.now k }
-    {
-        u32::from_le_bytes(bytes_at(self.record(k), 0))
-    }
-
-    pub(crate) fn form(&self, k: usize) -> [u8; 16]
-        requires { k < self.now.head.cells }
-        ensures { result ≡ form_in self.now.bytes.now k }
-    {
-        bytes_at(self.record(k), 4)
-    }
-
-    /// The bytes of the links of cell k.
-    pub(crate) fn links(&self, k: usize) -> &'a [u8]
-        requires { k < self.now.head.cells }
-        ensures is { result.now ≡ take 8 (drop (spot k + 20) self.now.bytes.now) }
-        ensures long { length result.now ≡ 8 }
-    {
-        &self.record(k)[20..28]
-    }
-
-    /// What link 0 of cell k names: of a free cell, the free cell after it.
-    pub(crate) fn next(&self, k: usize) -> Option<u16>
-        requires { k < self.now.head.cells }
-        ensures { result ≡ next_in self.now.bytes.now k }
-    {
-        unnamed(u16::from_le_bytes(bytes_at(self.links(k), 0)))
-    }
-
-    /// Whether the six bytes after link 0 of cell k are zeros.
-    pub(crate) fn rest_blank(&self, k: usize) -> bool
-        requires { k < self.now.head.cells }
-        ensures { result ≡ is_blank (rest_in self.now.bytes.now k) }
-    {
-        blank(&self.record(k)[22..28])
+        Entry { pages: *self, k }
     }
 
     pub(crate) fn is_free(&self, k: usize) -> bool
         ensures { result ≡ free_in self.now.bytes.now self.now.head.cells k }
     {
-        k < self.head.cells as usize && self.serial(k) == 0
-    }
-
-    /// Cell k as it is after reading.
-    pub(crate) fn cell(&self, k: usize) -> Cell
-        requires { k < self.now.head.cells }
-        ensures { result ≡ cell_in self.now.bytes.now k }
-    {
-        let serial = self.serial(k);
-        if serial == 0 {
-            return None;
-        }
-        Some(Record {
-            serial,
-            links: names(self.links(k)),
-            colour: Colour::Zero,
-            waiting: false,
-            snooped: false,
-            log: None,
-        })
+        k < self.head.cells as usize && self.entry(k).serial() == 0
     }
 
     /// The bytes of the places of all cards.

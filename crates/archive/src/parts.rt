@@ -15,16 +15,14 @@ pub(crate) type Body = ArrayVec<u8, 504>;
 
 /// The number of blocks for n cells.
 pub(crate) fn blocks_for(n: usize) -> usize
-    requires { n ≤ 4096 }
     ensures { result ≡ blocks_for n }
 {
-    1 + (n + 17) / 18
+    1 + n.div_ceil(18)
 }
 
 /// How many of n cells stand in block b of the cells.
 pub(crate) fn part_of(n: usize, b: usize) -> usize
-    requires few { n ≤ 4096 }
-    requires some { 18 * b < n }
+    requires { 18 * b < n }
     ensures { result ≡ part_of n b }
 {
     18.min(n - 18 * b)

@@ -48,7 +48,7 @@ impl Pages<'_> {
     fn frames_right(&self) -> bool
         ensures { result ≡ frames_right self.now.bytes.now }
     {
-        let blocks = (self.head.cells as usize + 17) / 18;
+        let blocks = (self.head.cells as usize).div_ceil(18);
         framed(self.block(0), 0, 0, 18 + 16 * self.head.cards as usize)
             && (0..blocks).all(|b| self.frame_right(b))
     }
@@ -58,11 +58,11 @@ impl Pages<'_> {
     fn name_right(&self, number: u16) -> bool
         ensures { result ≡ name_right self.now.bytes.now self.now.head.cells number }
     {
-        number == 0 || number <= self.head.cells && self.serial(number as usize - 1) != 0
+        number == 0 || number <= self.head.cells && self.entry(number as usize - 1).serial() != 0
     }
 
-    // Whether the numbers in some bytes are.
-    fn names_right(&self, names: &[u8]) -> bool
+    /// Whether each number in some bytes does.
+    pub(crate) fn names_right(&self, names: &[u8]) -> bool
         ensures { result ≡ every (λ i. name_right self.now.bytes.now self.now.head.cells (un16 (drop (2 * i) names.now))) (length names.now / 2) }
     {
         let (names, _) = names.as_chunks::<2>();
@@ -71,37 +71,16 @@ impl Pages<'_> {
             .all(|name| self.name_right(u16::from_le_bytes(*name)))
     }
 
-    fn links_right(&self, k: usize) -> bool
-        requires { k < self.now.head.cells }
-        ensures { result ≡ every (λ i. name_right self.now.bytes.now self.now.head.cells (link_in self.now.bytes.now k i)) 4 }
-    {
-        self.names_right(self.links(k))
-    }
-
     fn places_right(&self) -> bool
         ensures { result ≡ every (λ i. name_right self.now.bytes.now self.now.head.cells (place_in self.now.bytes.now i)) (8 * self.now.head.cards) }
     {
         self.names_right(self.places())
     }
 
-    #[tactic(auto, unfolding(crate::specs::Rules::cell_right))]
-    fn cell_right<C: Contents>(&self, k: usize) -> bool
-        requires { k < self.now.head.cells }
-        ensures { result ≡ cell_right C.read self.now.bytes.now self.now.head.cells k }
-    {
-        let serial = self.serial(k);
-        let form = self.form(k);
-        if serial == 0 {
-            blank(&form) && self.rest_blank(k)
-        } else {
-            serial < self.head.next && C::reading(&form).is_some() && self.links_right(k)
-        }
-    }
-
     fn cells_right<C: Contents>(&self) -> bool
         ensures { result ≡ every (cell_right C.read self.now.bytes.now self.now.head.cells) self.now.head.cells }
     {
-        (0..self.head.cells as usize).all(|k| self.cell_right::<C>(k))
+        (0..self.head.cells as usize).all(|k| self.entry(k).right::<C>())
     }
 
     // Whether two records share a serial. Among the other rules this loop would lack a register, and take a third longer.
@@ -112,9 +91,9 @@ impl Pages<'_> {
         // kept: the rules of the project name this form, a loop over pairs that is left from inside by a label.
         let mut found = false;
         'pairs: for i in 0..self.head.cells as usize {
-            let x = self.serial(i);
+            let x = self.entry(i).serial();
             for j in 0..i {
-                if x != 0 && self.serial(j) == x {
+                if x != 0 && self.entry(j).serial() == x {
                     found = true;
                     break 'pairs;
                 }
@@ -140,7 +119,9 @@ impl Pages<'_> {
         match first {
             None => left == 0,
             Some(k) => {
-                left > 0 && self.is_free(k as usize) && self.follow(self.next(k as usize), left - 1)
+                left > 0
+                    && self.is_free(k as usize)
+                    && self.follow(self.entry(k as usize).next(), left - 1)
             }
         }
     }
@@ -165,7 +146,6 @@ impl Pages<'_> {
 
     /// The bytes as an archive that keeps all rules but those of length and check.
     pub(crate) fn archive<C: Contents>(bytes: &[u8]) -> Option<Pages<'_>>
-        requires { 512 ≤ length bytes.now }
         ensures is { is_some result ≡ archive_right C.CODE C.read bytes.now }
         ensures same { IfSome result (λ p. p.bytes.now ≡ bytes.now) }
     {

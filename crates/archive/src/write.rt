@@ -45,8 +45,8 @@ fn write_cells<C: Contents>(out: &mut [u8], store: &Store<'_, C>, b: usize)
 {
     let count = part_of(store.cells().len(), b);
     let mut body = Body::new();
-    for j in 0..count {
-        add_cell(&mut body, store, 18 * b + j);
+    for k in 18 * b..18 * b + count {
+        add_cell(&mut body, store, k);
     }
     seal(out, b as u16 + 1, count as u16, body.as_slice());
 }
@@ -59,7 +59,7 @@ fn write_blocks<C: Contents>(store: &Store<'_, C>, out: &mut [u8])
     let n = store.cells().len();
     write_head(&mut out[0..512], store);
     // kept: tried with chunks_exact_mut, after which nothing is known of the bytes of `out`, so the proof does not close.
-    for b in 0..(n + 17) / 18 {
+    for b in 0..n.div_ceil(18) {
         let at = 512 + 512 * b;
         write_cells(&mut out[at..at + 512], store, b);
     }

@@ -15,19 +15,16 @@ four : (h : List Cell) (ls : List Name) → length ls ≡ 4 → names_bytes h ls
 unfolding run
 four h ls e = ap (run _) e ∙ refl
 
-pub returns-in-None : goal.returns-in-None
-returns-in-None g c =
+pub returns-in-None-clause-is : goal.returns-in-None-clause-is
+returns-in-None-clause-is g c =
     let w = world c.args.store.now in
     let k = c.args.k in
     let b = c.args.body.now.items in
     let e = c.cells-cells.ensures in
     let a : at w k ≡ None = ap (λ h. get_or h k None) (sym e) ∙ c.in-None.is in
     let n : c.after.result ≡ after w.free k = search rules in
-    record {
-      is = c.add_free.ensures
-          ∙ ap (λ t. b ++ t) (ap free_bytes (c.told_free.ensures ∙ ap (λ h. told_free (length h) c.after.result) e ∙ ap (told_free (length w.cells)) n) ∙ cell_free g.C.Contents.form w k a);
-      long = ap length c.add_free.ensures ∙ length-append b (free_bytes c.told_free.result);
-    }
+    c.add_free.ensures
+    ∙ ap (λ t. b ++ t) (ap free_bytes (c.told_free.ensures ∙ ap (λ h. told_free (length h) c.after.result) e ∙ ap (told_free (length w.cells)) n) ∙ cell_free g.C.Contents.form w k a)
 
 pub returns-in-Some : goal.returns-in-Some
 returns-in-Some g c =

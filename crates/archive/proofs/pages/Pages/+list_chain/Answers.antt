@@ -3,6 +3,7 @@ use Rattle.store.proofs.Stacks.{stack_none, stack_push}
 use Rattle.archive.specs.Bytes.{free_in, next_in}
 use Rattle.archive.specs.Reading.{chain_from}
 use Rattle.archive.proofs.Lists.{chain_out, chain_none, chain_not, chain_more}
+use Rattle.archive.proofs.Entries.{there}
 use Rattle.archive.proofs.pages.Pages.+list_chain.Goals as goal
 use Rattle.archive.proofs.pages.Pages.+list_chain.Goals.{else-left-gt0-via-then-left-gt0+else-is_free, else-left-gt0-via-else-left-gt0}
 
@@ -19,7 +20,7 @@ returns-then-is_free-clause-does t c =
     let next = next_in p.bytes.now in
     let free = free_in p.bytes.now p.head.cells in
     let k = c.in-Some.k in
-    stack_push c.list_chain.new.free c.push_reserved.new.self k c.push_reserved.ensures.items ∙ ap (λ l. k ∷ l) (c.list_chain.ensures.does ∙ ap (chain_from next free (c.args.left - 1)) c.next.ensures)
+    stack_push c.list_chain.new.free c.push_reserved.new.self k c.push_reserved.ensures.items ∙ ap (λ l. k ∷ l) (c.list_chain.ensures.does ∙ ap (chain_from next free (c.args.left - 1)) (c.next.ensures ∙ there next_in p c.entry.result k c.entry.ensures.of c.entry.ensures.at))
     ∙ chain_more next free c.args.left k (λ z. omega (arith, c.if-left-gt0.true)) (sym c.if-is_free.ensures)
     ∙ ap (chain_from next free c.args.left) (sym c.in-Some.is)
 

@@ -5,14 +5,14 @@ use Rattle.archive.specs.Bytes.{spot, link_in}
 use Rattle.archive.specs.Rules.{name_right}
 use Rattle.archive.proofs.Glue.{two_in}
 use Rattle.archive.proofs.Walks.{every_same}
-use Rattle.archive.proofs.pages.Pages.links_right.Goals as goal
+use Rattle.archive.proofs.entry.Entry.links_right.Goals as goal
 
 pub returns : goal.returns
 unfolding link_in
 returns c =
-    let bs = c.args.self.now.bytes.now in
-    let n = c.args.self.now.head.cells in
-    let k = c.args.k in
+    let bs = c.args.self.now.pages.bytes.now in
+    let n = c.args.self.now.pages.head.cells in
+    let k = c.args.self.now.k in
     let l = c.links.result.now in
     c.names_right.ensures ∙ ap (λ m. every (λ i. name_right bs n (un16 (drop (2 * i) l))) (m / 2)) c.links.ensures.long
     ∙ every_same (λ i. name_right bs n (un16 (drop (2 * i) l))) (λ i. name_right bs n (link_in bs k i)) 4
