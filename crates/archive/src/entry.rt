@@ -28,6 +28,7 @@ impl<'a> Entry<'a> {
         &self.pages.block(self.k / 18 + 1)[at..at + 28]
     }
 
+    // kept: the format has 0 where there is no record, and its rules go by that number.
     pub(crate) fn serial(&self) -> u32
         ensures { result ≡ serial_in self.now.pages.bytes.now self.now.k }
     {

@@ -29,6 +29,7 @@ pub(crate) fn part_of(n: usize, b: usize) -> usize
 }
 
 // Appends to a body. There is room, so it cannot fail.
+// kept: each part of a body says the room that it needs, which no one fact of a body says for all of them.
 fn add(body: &mut Body, part: &[u8])
     requires { array_vec_len body.old + length part.now ≤ 504 }
     ensures { body.new.items ≡ body.old.items ++ part.now }

@@ -26,7 +26,6 @@ fn framed(block: &[u8], number: u16, count: u16, needs: usize) -> bool
     requires room { needs ≤ 504 }
     ensures { result ≡ framed number count needs block.now }
 {
-    // kept: the rules of the project name this form, a block taken apart by a pattern.
     let [n0, n1, c0, c1, rest @ ..] = block else {
         return false;
     };

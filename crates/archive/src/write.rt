@@ -20,6 +20,7 @@ fn in_hand(cards: &[Card]) -> bool
 }
 
 // Writes a block into a part that is just as long.
+// kept: tried parts that are arrays; the library says nothing of what a slice ends as that is written through `as_chunks_mut`.
 fn seal(out: &mut [u8], number: u16, count: u16, body: &[u8])
     requires block { length out.old ≡ 512 }
     requires room { length body.now ≤ 504 }

@@ -1,12 +1,12 @@
 -- Coverage is kept by every change and holds where a run starts. From Gather on a covered record stays covered: a lemma for each kind of change.
-use Rattle.std.proofs.Common.{◌≡◌, ℕ, zero, suc, ◌+◌, ◌%◌, ◌<◌, ◌≤◌, true, false, ◌||◌, ◌⊎◌, List, ◌∷◌, length, get_or, is_some, Some, None, Option, sym, refl, ◌∙◌, inl, inr, arith}
+use Rattle.std.proofs.Common.{◌≡◌, ℕ, ◌+◌, ◌%◌, ◌<◌, ◌≤◌, true, false, ◌||◌, ◌⊎◌, List, ◌∷◌, length, get_or, is_some, Some, None, Option, sym, refl, ◌∙◌, inl, inr, arith}
 use Rattle.std.proofs.lemmas.Bool.{cases_eq, cases_Bool, cases_lt, false≢true}
 use Rattle.std.proofs.lemmas.List.{get_or_past}
 use Rattle.std.proofs.lemmas.Bool.Decides.{nat_tests}
 use Rattle.machine.specs.declared.types.Phase.TheVariants as ph
 use Rattle.machine.specs.declared.types.Stage.TheVariants.{Looked, Noted}
 use Rattle.machine.specs.declared.types.Update.{Update}
-use Rattle.machine.specs.World.{World, Name, at, used, mark, wait, snooped, link, view, view_at, logged, place, card, named, blank_card, empty_links}
+use Rattle.machine.specs.World.{World, Name, at, used, mark, wait, snooped, link, view, view_at, logged, place, card, named, blank_card}
 use Rattle.machine.specs.Waiting.{heap, push_all, snooped_names}
 use Rattle.machine.specs.Cards.{new_done, load_done, copy_done, drop_done, look_done, note_done, store_done}
 use Rattle.machine.specs.Rounds.{enter, trace_done, trace_mark, leave_gather, start_sweep, obey, sweep_keep, sweep_free}
