@@ -51,6 +51,7 @@ impl Kind {
         }
     }
 
+    // kept: these two are what `try_from` and `parse` go by, and users may want no error.
     /// The kind with this number, or none.
     #[tactic(auto, unfolding(crate::specs::Kinds::kind_numbered))]
     pub fn numbered(number: u8) -> Option<Kind>

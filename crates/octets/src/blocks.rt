@@ -5,6 +5,7 @@ use crate::block::Block;
 use crate::check::check_of;
 use refusal::Refusal;
 
+// kept: what is written is three values; a `Block` is what was read and found right.
 /// Writes a whole block over `out`, which has to be 512 bytes long; the body has at most 504.
 #[tactic(auto, using(crate::proofs::Filled::says))]
 pub fn write_block(out: &mut [u8], number: u16, count: u16, body: &[u8]) -> Result<(), Refusal>

@@ -22,6 +22,7 @@ pub fn seal_values(out: &mut [u8], number: u16, values: &[Value]) -> Result<(), 
 }
 
 // Appends a value's bytes to the body of a block. There is room, so it cannot fail.
+// kept: the archive has its like for 504 bytes; a crate below both could offer it only with a condition on its callers.
 fn add(body: &mut ArrayVec<u8, 324>, value: &Value)
     requires { array_vec_len body.old + 18 ≤ 324 }
     ensures { body.new.items ≡ body.old.items ++ value_bytes value.now }
@@ -48,6 +49,7 @@ pub fn value_at(body: &[u8], k: usize) -> Option<Value>
     if k >= 18 {
         return None;
     }
+    // kept: tried `as_chunks` and `first_chunk`, and the proof did not close.
     let bytes = body.get(18 * k..18 * k + 18)?;
     Value::of_bytes(bytes)
 }
