@@ -1,11 +1,7 @@
 -- A test of each number below another, step by step. Assumes nothing.
 use Rattle.std.proofs.Common.{◌≡◌, ℕ, zero, suc, ◌<◌, Bool, true, false, cond, sym, refl, ap, ◌∙◌, inl, inr, arith}
-use Rattle.std.proofs.lemmas.Bool.{cases_eq, cases_Bool, false≢true}
+use Rattle.std.proofs.lemmas.Bool.{cond_both, cases_eq, cases_Bool, false≢true}
 use Rattle.archive.specs.Runs.{every}
-
-none_left : (t : Bool) → cond t false false ≡ false
-none_left true = refl
-none_left false = refl
 
 module _ (t : ℕ → Bool) where
   pub every_stop : (k n : ℕ) → k < n → t k ≡ false → every t n ≡ false
@@ -13,7 +9,7 @@ module _ (t : ℕ → Bool) where
   every_stop k zero l h = absurd (omega arith)
   every_stop k (suc n) l h =
       elim (cases_eq k n) [
-        | inl e ↦ ap (λ i. cond (every t n) (t i) false) (sym e) ∙ ap (λ b. cond (every t n) b false) h ∙ none_left (every t n)
+        | inl e ↦ ap (λ i. cond (every t n) (t i) false) (sym e) ∙ ap (λ b. cond (every t n) b false) h ∙ cond_both (every t n) false false (λ b. b ≡ false) (λ _. refl) (λ _. refl)
         | inr e ↦ ap (λ b. cond b (t n) false) (every_stop k n (omega arith) h)
       ]
 

@@ -3,20 +3,18 @@ use Rattle.std.proofs.Common.{◌≡◌, ℕ, zero, suc, ◌<◌, ◌≤◌, tru
 use Rattle.std.specs.List.{slice_get}
 use Rattle.std.proofs.lemmas.Bool.{eq-eqb, ne_eqb}
 use Rattle.std.proofs.lemmas.List.{length-reverse}
+use Rattle.std.proofs.lemmas.Option.{none-some}
 use Rattle.store.specs.Model.{stack}
 use Rattle.store.specs.World.{world}
 use Rattle.store.proofs.Cells.{spares_most}
 use Rattle.store.specs.declared.whole.Store.{Store}
 use Rattle.archive.specs.Layout.{after}
 
-pub none_some : {X A : Type 0} (x : X) → None ≡ Some x → A
-none_some x e = let z : ◌≡◌ {A = ℕ} 0 1 = cc in absurd (omega arith)
-
 -- what comes after the first place that holds a cell, and nothing after a cell that no place holds
 pub after_first : (l : List ℕ) (k i : ℕ) → slice_get l i ≡ Some k → ((j : ℕ) → j < i → slice_get l j ≡ Some k → ⊥) → after l k ≡ slice_get l (suc i)
 unfolding after
-after_first [] k zero e h = none_some k e
-after_first [] k (suc i) e h = none_some k e
+after_first [] k zero e h = absurd (none-some k e)
+after_first [] k (suc i) e h = absurd (none-some k e)
 after_first (x ∷ l) k zero e h = let p : x ≡ k = cc in let t : eqb x k ≡ true = eq-eqb x k p in rw t
 after_first (x ∷ l) k (suc i) e h =
     let t : eqb x k ≡ false = ne_eqb x k (λ p. h 0 (omega arith) (ap Some p)) in

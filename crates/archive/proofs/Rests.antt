@@ -1,8 +1,9 @@
 -- A store that was read is at rest.
-use Rattle.std.proofs.Common.{◌≡◌, ℕ, zero, suc, ◌+◌, ◌-◌, ◌*◌, ◌<◌, ◌≤◌, Bool, true, false, cond, not, ◌&&◌, eqb, ltb, ◌⊎◌, List, [], ◌∷◌, length, get_or, replicate, is_some, Some, None, Option, sym, refl, ap, ◌∙◌, subst, inl, inr, arith}
+use Rattle.std.proofs.Common.{◌≡◌, ℕ, zero, suc, ◌+◌, ◌-◌, ◌*◌, ◌<◌, ◌≤◌, Bool, true, false, cond, not, ◌&&◌, eqb, ltb, ◌⊎◌, List, [], ◌∷◌, length, get_or, is_some, Some, None, Option, sym, refl, ap, ◌∙◌, subst, inl, inr, arith}
 use Rattle.std.specs.List.{AllByRecursion as All}
 use Rattle.std.proofs.lemmas.Bool.{cases_eq, cases_lt, eq-eqb, ne_eqb, lt-ltb, eqb-true, ltb-true, false≢true, and_parts}
-use Rattle.std.proofs.lemmas.List.{get_or_past, length-replicate}
+use Rattle.std.proofs.lemmas.Option.{none-some}
+use Rattle.std.proofs.lemmas.List.{get_or_past, length-replicate, places}
 use Rattle.line.specs.Lines.{Among}
 use Rattle.laws.specs.Steps.{AtRest, Distinct}
 use Rattle.machine.specs.declared.types.Record.{Record}
@@ -43,14 +44,6 @@ pub all_among : (P : ℕ → Type 0) (k : ℕ) (l : List ℕ) → All P l → Am
 all_among P k [] h a = absurd a
 all_among P k (x ∷ l) h (inl e) = subst P (sym e) h.0
 all_among P k (x ∷ l) h (inr a) = all_among P k l h.1 a
-
-same_false : (n c : ℕ) → get_or (replicate n false) c false ≡ false
-same_false zero c = refl
-same_false (suc n) zero = refl
-same_false (suc n) (suc c) = same_false n c
-
-pub none_some : {X A : Type 0} (x : X) → None ≡ Some x → A
-none_some x e = let z : ◌≡◌ {A = ℕ} 0 1 = cc in absurd (omega arith)
 
 not_zero : (b : Bool) → cond b 1 0 ≤ 1
 not_zero true = omega arith
@@ -110,7 +103,7 @@ module _ {C : Type 0} (code : ℕ) (read : List ℕ → Option C) (bs : List ℕ
   named_used : (v x : ℕ) → name_right bs n v ≡ true → unname v ≡ Some x → used w x ≡ true
   named_used v x e s =
       elim (cases_eq v 0) [
-        | inl z ↦ none_some x (ap (λ b. cond b None (Some (v - 1))) (sym (eq-eqb v 0 z)) ∙ s)
+        | inl z ↦ absurd (none-some x (ap (λ b. cond b None (Some (v - 1))) (sym (eq-eqb v 0 z)) ∙ s))
         | inr z ↦
             let r = name_tells bs n v e z in
             let p : Some (v - 1) ≡ Some x = ap (λ b. cond b None (Some (v - 1))) (sym (ne_eqb v 0 z)) ∙ s in
@@ -131,12 +124,12 @@ module _ {C : Type 0} (code : ℕ) (read : List ℕ → Option C) (bs : List ℕ
   links_used : (y i x : ℕ) → link w y i ≡ Some x → used w x ≡ true
   links_used y i x e =
       elim (cell_cases y) [
-        | inl p ↦ none_some x (sym (ap (see (λ r. get_or r.links i None) None) p) ∙ e)
+        | inl p ↦ absurd (none-some x (sym (ap (see (λ r. get_or r.links i None) None) p) ∙ e))
         | inr p ↦
             let f : get_or (links_of bs y) i None ≡ Some x = sym (ap (see (λ r. get_or r.links i None) None) p.here) ∙ e in
             elim (link_cases bs y i) [
               | inl q ↦ named_used (link_in bs y i) x (link_ok y i p.low p.serial q.0) (sym q.1 ∙ f)
-              | inr q ↦ none_some x (sym q ∙ f)
+              | inr q ↦ absurd (none-some x (sym q ∙ f))
             ]
       ]
 
@@ -154,11 +147,11 @@ module _ {C : Type 0} (code : ℕ) (read : List ℕ → Option C) (bs : List ℕ
   places_used : (c q x : ℕ) → place w c q ≡ Some x → used w x ≡ true
   places_used c q x e =
       elim (cases_lt c (cards_in bs)) [
-        | inr l ↦ none_some x (sym (ap (λ k. get_or k.places q None) (card_past c l)) ∙ e)
+        | inr l ↦ absurd (none-some x (sym (ap (λ k. get_or k.places q None) (card_past c l)) ∙ e))
         | inl l ↦
             let f : get_or (places_of bs c) q None ≡ Some x = sym (ap (λ k. get_or k.places q None) (world_card read bs old c l)) ∙ e in
             elim (cases_lt q 8) [
-              | inr h ↦ none_some x (sym (get_or_past (places_of bs c) q None h) ∙ f)
+              | inr h ↦ absurd (none-some x (sym (get_or_past (places_of bs c) q None h) ∙ f))
               | inl h ↦
                   let ok : name_right bs n (place_in bs (8 * c + q)) ≡ true = every_each (λ i. name_right bs n (place_in bs i)) (8 * c + q) (8 * cards_in bs) (omega arith) A.places in
                   named_used (place_in bs (8 * c + q)) x ok (sym (place_at bs c q h) ∙ f)
@@ -220,7 +213,7 @@ module _ {C : Type 0} (code : ℕ) (read : List ℕ → Option C) (bs : List ℕ
     waiting = refl;
     order = refl;
     sweep = refl;
-    answered = same_false (cards_in bs);
+    answered = λ c. grind (arith, places);
     lasts = λ c l. ap (λ k. k.last) (world_card read bs old c (omega (arith, world_count read bs old)));
     births = each_card (λ k. k.birth ≡ Zero) refl (λ _. refl);
     snoop = each_card (λ k. k.snoop ≡ false) refl (λ _. refl);

@@ -110,11 +110,6 @@ read_all-at w [] i = refl
 read_all-at w (v ∷ vs) zero = refl
 read_all-at w (v ∷ vs) (suc i) = read_all-at w vs i
 
-pub read_all-length : {C : Type 0} (w : World C) (vs : List Name) → length (read_all w vs) ≡ length vs
-unfolding read_all
-read_all-length w [] = refl
-read_all-length w (v ∷ vs) = ap suc (read_all-length w vs)
-
 pub snooped_names-at : (n : ℕ) (h : List Cell) (i : ℕ) → get_or (snooped_names n h) i None ≡ name_if (see (λ r. r.snooped) false (get_or h i None)) (n + i)
 unfolding snooped_names
 snooped_names-at n [] i = refl

@@ -1,6 +1,8 @@
 -- A store just made is at rest.
 use Rattle.std.proofs.Common.{◌≡◌, ℕ, zero, suc, ◌+◌, ◌-◌, ◌<◌, ◌≤◌, false, ◌⊎◌, List, length, get_or, replicate, sym, refl, ◌∙◌, inl, inr, arith, length-set, None}
 use lib.ListN.{length-replicate}
+use Rattle.std.proofs.lemmas.Bool.{cases_lt}
+use Rattle.std.proofs.lemmas.List.{get_or_past, get_or-replicate, places}
 use Rattle.machine.specs.declared.types.Colour.TheVariants.{Zero}
 use Rattle.machine.specs.World.{Cell, fresh, born_at, newborn, empty_links, fresh_card, blank_card, count_up}
 use Rattle.line.specs.Lines.{Among}
@@ -8,15 +10,11 @@ use Rattle.laws.specs.Steps.{AtRest, Distinct}
 use Rattle.laws.proofs.Frames.{frame, born_at-length}
 
 free_at_lem : (n y : ℕ) → get_or {A = Cell} (replicate n None) y None ≡ None
-free_at_lem zero y = refl
-free_at_lem (suc n) zero = refl
-free_at_lem (suc n) (suc y) = free_at_lem n y
+free_at_lem n y = grind (arith, places)
 
 -- one of n equal things, or the default past them
 like : {A : Type 0} (n : ℕ) (a d : A) (c : ℕ) → ((get_or (replicate n a) c d ≡ a) × (c < n)) ⊎ ((get_or (replicate n a) c d ≡ d) × (n ≤ c))
-like zero a d c = inr (refl, omega arith)
-like (suc n) a d zero = inl (refl, omega arith)
-like (suc n) a d (suc c) = elim (like n a d c) [ inl p ↦ inl (p.0, omega (arith, p.1)) | inr p ↦ inr (p.0, omega (arith, p.1)) ]
+like n a d c = elim (cases_lt c n) [ inl l ↦ inl (get_or-replicate n c a d l, l) | inr l ↦ inr (get_or_past (replicate n a) c d (omega (arith, length-replicate n a)), l) ]
 
 count_is : (a n x : ℕ) → Among x (count_up a n) → (a ≤ x) × (x < a + n)
 unfolding count_up

@@ -1,10 +1,9 @@
 -- A buffer that is filled from its start on. Assumes nothing.
-use Rattle.std.proofs.Common.{◌≡◌, ℕ, ◌+◌, ◌-◌, ◌<◌, ◌≤◌, true, false, eqb, ltb, List, ◌++◌, length, take, drop, replicate, Ok, Err, refl, sym, ap, ◌∙◌, arith, take_all}
+use Rattle.std.proofs.Common.{◌≡◌, ℕ, ◌+◌, ◌-◌, ◌<◌, ◌≤◌, true, false, eqb, ltb, List, ◌++◌, length, take, drop, replicate, Ok, refl, sym, ap, ◌∙◌, arith, take_all}
 use borrow.Rule.Slice.PartMut.{put_mid, post_of}
-use Rattle.std.proofs.lemmas.List.{length-take, length-replicate, length-append, take-take, take_at, drop_at}
+use Rattle.std.proofs.lemmas.List.{length-take, length-replicate, length-append, take_at, drop_at}
 use Rattle.std.proofs.lemmas.Slice.{take-put_mid}
 use Rattle.std.proofs.lemmas.Bool.{eq-eqb, le-ltb}
-use Rattle.refusal.specs.declared.kinds.Refusal.TheVariants.{BadCheck}
 use Rattle.octets.specs.Numbers.{le16, le32, un16, un32}
 use Rattle.octets.specs.Check.{check_of}
 use Rattle.octets.proofs.Numbers.{un_le16, un_le32}
@@ -56,18 +55,10 @@ written out o body b n l h e =
     let s : ltb 504 (length body) ≡ false = le-ltb 504 (length body) h in
     rw (t, s) (ap (λ x. (Ok tt, x)) e)
 
-pub body_is : (bs : List ℕ) → length bs ≡ 512 → take 504 (take (length bs - 4) (drop 4 bs)) ≡ take 504 (drop 4 bs)
-body_is bs l = take-take 504 (length bs - 4) (drop 4 bs) (omega arith)
-
 pub opens : (bs body : List ℕ) (b n : ℕ) → length bs ≡ 512 → check_right bs ≡ true → b ≡ un16 bs → n ≡ un16 (drop 2 bs) → body ≡ take 504 (drop 4 bs) → Ok (record { number = b; count = n; body = body }) ≡ opening bs
 opens bs body b n l r e f g =
     let t : eqb (length bs) 512 ≡ true = eq-eqb (length bs) 512 l in
     rw (t, r, e, f, g)
-
-pub spoilt : (bs : List ℕ) → length bs ≡ 512 → check_right bs ≡ false → Err BadCheck ≡ opening bs
-spoilt bs l r =
-    let t : eqb (length bs) 512 ≡ true = eq-eqb (length bs) 512 l in
-    rw (t, r)
 
 -- a written block says what was written
 pub says : (b n : ℕ) (body : List ℕ) → b < 65536 → n < 65536 → length body ≤ 504 → SaysWhatWasWritten b n body

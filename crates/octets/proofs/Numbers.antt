@@ -1,5 +1,5 @@
 -- Reading a number back from its bytes, and its bytes back from the number. Assumes nothing.
-use Rattle.std.proofs.Common.{◌≡◌, ℕ, ◌+◌, ◌*◌, ◌/◌, ◌%◌, ◌<◌, List, [], ◌∷◌, length, get_or, sym, refl, ap, ◌∙◌, arith}
+use Rattle.std.proofs.Common.{◌≡◌, ℕ, ◌+◌, ◌*◌, ◌/◌, ◌%◌, ◌<◌, [], ◌∷◌, sym, refl, ap, ◌∙◌, arith}
 use Rattle.octets.specs.Numbers.{le16, le32, un16, un32}
 
 small : (n : ℕ) → n < 256 → n % 256 ≡ n
@@ -40,17 +40,3 @@ le32_of a b c d h k l m =
     let q' : n / 16777216 ≡ d = omega arith in
     let q : n / 16777216 % 256 ≡ d = ap (λ m. m % 256) q' ∙ small d m in
     rw (i, j, p, q)
-
-pub le_un16 : (bs : List ℕ) → length bs ≡ 2 → ((i : ℕ) → get_or bs i 0 < 256) → le16 (un16 bs) ≡ bs
-le_un16 [] h f = absurd (omega arith)
-le_un16 (a ∷ []) h f = absurd (omega arith)
-le_un16 (a ∷ b ∷ []) h f = le16_of a b (f 0) (f 1)
-le_un16 (a ∷ b ∷ c ∷ cs) h f = absurd (omega arith)
-
-pub le_un32 : (bs : List ℕ) → length bs ≡ 4 → ((i : ℕ) → get_or bs i 0 < 256) → le32 (un32 bs) ≡ bs
-le_un32 [] h f = absurd (omega arith)
-le_un32 (a ∷ []) h f = absurd (omega arith)
-le_un32 (a ∷ b ∷ []) h f = absurd (omega arith)
-le_un32 (a ∷ b ∷ c ∷ []) h f = absurd (omega arith)
-le_un32 (a ∷ b ∷ c ∷ d ∷ []) h f = le32_of a b c d (f 0) (f 1) (f 2) (f 3)
-le_un32 (a ∷ b ∷ c ∷ d ∷ e ∷ es) h f = absurd (omega arith)

@@ -1,5 +1,6 @@
 -- Cells changed in place, and how many of them are spare.
-use Rattle.std.proofs.Common.{◌≡◌, ℕ, zero, suc, ◌+◌, ◌<◌, ◌≤◌, Bool, true, false, cond, not, ◌||◌, List, [], ◌∷◌, length, get_or, set, refl, ap, ◌∙◌, arith, None, Some}
+use Rattle.std.proofs.Common.{◌≡◌, ℕ, zero, suc, ◌+◌, ◌<◌, ◌≤◌, true, false, cond, List, [], ◌∷◌, length, get_or, set, refl, ap, ◌∙◌, arith, None, Some}
+use Rattle.std.proofs.lemmas.Bool.{false≢true, not-true, or_parts}
 use Rattle.machine.specs.declared.types.Colour.{Colour}
 use Rattle.machine.specs.declared.types.Record.{Record}
 use Rattle.machine.specs.World.{Cell}
@@ -57,19 +58,10 @@ spares_low [] x c = omega arith
 spares_low (d ∷ h) zero c = omega (arith, spare_most d)
 spares_low (d ∷ h) (suc x) c = omega (arith, spares_low h x c)
 
-not_false : false ≡ true → ⊥
-not_false e = let z : ◌≡◌ {A = ℕ} 0 1 = ap {B = ℕ} (λ b. cond b 1 0) e in omega arith
-
-quiet : (a b : Bool) → not (a || b) ≡ true → b ≡ false
-quiet true true e = absurd (not_false e)
-quiet true false e = refl
-quiet false true e = absurd (not_false e)
-quiet false false e = refl
-
 -- a pale record is not waiting
 pub pale_spare : (m : Colour) (c : Cell) → pale m c ≡ true → spare c ≡ 0
-pale_spare m None e = absurd (not_false e)
-pale_spare m (Some r) e = ap {B = ℕ} (λ b. cond b 1 0) (quiet (same_colour r.colour m) r.waiting e)
+pale_spare m None e = absurd (false≢true e)
+pale_spare m (Some r) e = ap {B = ℕ} (λ b. cond b 1 0) (or_parts (same_colour r.colour m) r.waiting (not-true _ e)).1
 
 pub spares_freed : (m : Colour) (h : List Cell) (x : ℕ) → pale m (get_or h x None) ≡ true → x < length h → spares (set h x None) ≡ spares h + 1
 spares_freed m h x e l = omega (arith, spares_set h x None l, pale_spare m (get_or h x None) e)
@@ -92,9 +84,9 @@ spares_alter f k (c ∷ h) (suc x) = omega (arith, spares_alter f k h x)
 
 pub spares_greyen : (m : Colour) (h : List Cell) (x : ℕ) → pale m (get_or h x None) ≡ true → spares (alter_at h x greyen) ≡ spares h + 1
 unfolding spares alter_at
-spares_greyen m [] x e = absurd (not_false e)
-spares_greyen m (None ∷ h) zero e = absurd (not_false e)
-spares_greyen m (Some r ∷ h) zero e = omega (arith, ap {B = ℕ} (λ b. cond b 1 0) (quiet (same_colour r.colour m) r.waiting e))
+spares_greyen m [] x e = absurd (false≢true e)
+spares_greyen m (None ∷ h) zero e = absurd (false≢true e)
+spares_greyen m (Some r ∷ h) zero e = omega (arith, ap {B = ℕ} (λ b. cond b 1 0) (or_parts (same_colour r.colour m) r.waiting (not-true _ e)).1)
 spares_greyen m (c ∷ h) (suc x) e = omega (arith, spares_greyen m h x e)
 
 pub spares_blacken : (f : Record → Record) (h : List Cell) (x : ℕ) → spares h ≤ spares (alter_at h x f) + 1

@@ -2,9 +2,10 @@ use Rattle.std.proofs.Common.{◌≡◌, ℕ, ◌+◌, ◌<◌, ◌≤◌, List,
 use Rattle.std.specs.List.{slice_get}
 use Rattle.std.specs.Option.{MatchOption}
 use Rattle.std.proofs.lemmas.Iterator.{first_from_Range}
+use Rattle.std.proofs.lemmas.Option.{none-some}
 use Rattle.store.specs.World.{world}
 use Rattle.archive.specs.Layout.{after}
-use Rattle.archive.proofs.Free.{after_first, after_never, free_short, none_some}
+use Rattle.archive.proofs.Free.{after_first, after_never, free_short}
 use Rattle.archive.proofs.parts.after.Goals as goal
 
 -- what a search through the list finds
@@ -13,10 +14,10 @@ Found l k n o = MatchOption o ((j : ℕ) → 0 ≤ j → j < n → slice_get l j
 
 nothing : (l : List ℕ) (k n : ℕ) (o : Option ℕ) → length l ≤ n → o ≡ None → Found l k n o → after l k ≡ None
 nothing l k n None m e f = after_never l k n m (λ j h. f j (omega arith) h)
-nothing l k n (Some i) m e f = none_some i (sym e)
+nothing l k n (Some i) m e f = absurd (none-some i (sym e))
 
 something : (l : List ℕ) (k n : ℕ) (o : Option ℕ) (i : ℕ) → o ≡ Some i → Found l k n o → (i < n) × (slice_get l (i + 1) ≡ after l k)
-something l k n None i e f = none_some i e
+something l k n None i e f = absurd (none-some i e)
 something l k n (Some j) i e f =
     let q : j ≡ i = cc in
     subst (λ i. (i < n) × (slice_get l (i + 1) ≡ after l k)) q (f.1, ap (slice_get l) (add-one j) ∙ sym (after_first l k j f.2 (λ i h. f.3 i (omega arith) h)))

@@ -2,7 +2,8 @@ use Rattle.std.proofs.Common.{◌≡◌, ◌+◌, ◌≤◌, false, [], length, 
 use lib.ListN.{length-replicate}
 use Rattle.machine.specs.World.{born_at}
 use Rattle.store.specs.Model.{stack, spares}
-use Rattle.store.proofs.Made.{made_spares, take_same}
+use Rattle.std.proofs.lemmas.List.{take-replicate}
+use Rattle.store.proofs.Made.{made_spares}
 use Rattle.store.proofs.Stacks.{stack_none}
 use Rattle.store.proofs.plan.Plan.make.Goals as goal
 
@@ -24,6 +25,6 @@ returns g c =
     let z : c.fill.new.self ≡ replicate n None = c.fill.ensures.after (λ y k. search rules) in
     let few : d.cards ≤ 8 = search rules in
     let t : stack d.lists.waiting ≡ [] = stack_none d.lists.waiting search rules in
-    let k : take d.cards (replicate 8 c.fresh_card.result) ≡ replicate d.cards c.fresh_card.result = take_same d.cards 8 c.fresh_card.result few in
-    let a : take d.cards (replicate 8 false) ≡ replicate d.cards false = take_same d.cards 8 false few in
+    let k : take d.cards (replicate 8 c.fresh_card.result) ≡ replicate d.cards c.fresh_card.result = take-replicate d.cards 8 c.fresh_card.result few in
+    let a : take d.cards (replicate 8 false) ≡ replicate d.cards false = take-replicate d.cards 8 false few in
     search (rules, z, t, k, a)
