@@ -14,6 +14,7 @@ use store::{Plan, Why};
 const MOST_CELLS: usize = 4096;
 
 /// The numbers of a store.
+// kept: the store's own type for them is private, and counts two tables.
 #[derive(Clone, Copy)]
 pub struct Size {
     cells: usize,

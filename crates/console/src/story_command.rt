@@ -5,7 +5,7 @@ use crate::source::{Item, Source};
 use std::slice::Iter;
 
 // A script. A line that begins with '=' is a sentence about the calls after it.
-// kept: a script is lines of text, and the first sign of a line tells a sentence as it tells a comment.
+// kept: a script is lines of text; an enum would write its case before each of them.
 static DAY: [&str; 104] = [
     "= The loop line on this site is old: of the first sendings on it, number 0 and number 4 get lost.",
     "line leaky 17",

@@ -27,7 +27,7 @@ impl Wire {
         store: &mut Store<'_, C>,
         calls: &[Call<C>],
     ) -> Result<Vec<Answer<C>>, AllocError> {
-        // kept: `play` is generic over the line, and a `dyn Line` could not carry the facts that its contract states
+        // kept: as an `impl Line for Wire` there would be four such matches, and the four laws again, in place of this one
         match self {
             Wire::Straight(line) => play(heap, store, line, calls),
             Wire::Lossy(line) => play(heap, store, line, calls),

@@ -51,7 +51,7 @@ impl Kind {
         }
     }
 
-    // kept: these two are what `try_from` and `parse` go by, and users may want no error.
+    // kept: these two are public and exact; `try_from` and `parse` are them with an error.
     /// The kind with this number, or none.
     #[tactic(auto, unfolding(crate::specs::Kinds::kind_numbered))]
     pub fn numbered(number: u8) -> Option<Kind>

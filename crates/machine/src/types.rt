@@ -48,7 +48,7 @@ pub struct Record {
 pub type Cell = Option<Record>;
 
 /// How far an update in hand has come: looked, with the draft if one was kept; then noted.
-// kept: as an option of an option, a noted update would read like one that was looked without a draft.
+// kept: as an option of an option, noted and looked without a draft would differ by one `Some`.
 #[derive(Clone, Copy)]
 pub enum Stage {
     Looked(Option<[Option<u16>; 4]>),

@@ -22,7 +22,7 @@ pub fn seal_values(out: &mut [u8], number: u16, values: &[Value]) -> Result<(), 
 }
 
 // Appends a value's bytes to the body of a block. There is room, so it cannot fail.
-// kept: the archive has its like for 504 bytes; a crate below both could offer it only with a condition on its callers.
+// kept: the archive has its like for 504 bytes; below both it would be public and have a condition, which public functions have not.
 fn add(body: &mut ArrayVec<u8, 324>, value: &Value)
     requires { array_vec_len body.old + 18 ≤ 324 }
     ensures { body.new.items ≡ body.old.items ++ value_bytes value.now }

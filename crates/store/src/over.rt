@@ -13,6 +13,7 @@ use machine::types::Phase;
 use refusal::Refusal;
 
 // kept: three steps are of a card that a call has found known; a type of known cards would have to borrow them.
+// kept: a call is lent the line, which is not the store's, and is given any card number.
 impl<C: Copy> Store<'_, C> {
     fn obey(&mut self, c: u8, n: u32)
         requires { c < length (world self.old).cards }

@@ -10,7 +10,7 @@ pub struct RoundState {
     pub rounds: u32,
     pub phase: Phase,
     pub order: u32,
-    // kept: this type is public and Copy, which an ArrayVec is not; answers of cards that a store has not are never read.
+    // kept: this type is public and Copy, which an ArrayVec is not; `round` says that answers of other cards do not count.
     pub answered: [bool; 8],
     pub sweep: u16,
 }

@@ -13,7 +13,7 @@ pub struct Store<'a, C> {
     pub(crate) cells: &'a mut [Cell],
     pub(crate) contents: &'a mut [C],
     pub(crate) cards: ArrayVec<Card, 8>,
-    // kept: a call works at one list or the other, so they are two fields.
+    // kept: as one value of `Lists` each use would say `lists.` before its list, and nothing would be shorter.
     pub(crate) free: Vec<u16>,
     pub(crate) waiting: Vec<u16>,
     pub(crate) state: RoundState,
