@@ -12,7 +12,10 @@ use machine::types::{Card, Cell};
 fn from_top(list: &Vec<u16>, i: usize) -> Option<u16>
     ensures { result ≡ slice_get (stack list.now) i }
 {
-    list.iter().rev().nth(i).copied()
+    if i >= list.len() {
+        return None;
+    }
+    Some(list[list.len() - 1 - i])
 }
 
 impl<C: Copy> Store<'_, C> {

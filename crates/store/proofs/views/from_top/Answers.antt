@@ -1,9 +1,9 @@
-use Rattle.std.proofs.Common.{vec_items, ◌∙◌}
-use Rattle.std.proofs.lemmas.Iterator.Adapters.{YieldsList-from_rev_slice}
-use Rattle.std.proofs.lemmas.Iterator.Consumers.{nth_from_yields_List}
-use Rattle.store.specs.Model.{stack}
+use Rattle.std.proofs.Common.{rules}
+use Rattle.store.proofs.Stacks.{stack_past, stack_at}
 use Rattle.store.proofs.views.from_top.Goals as goal
 
+pub returns-then-i-len : goal.returns-then-i-len
+returns-then-i-len c = stack_past c.args.list.now c.args.i (search rules)
+
 pub returns : goal.returns
-unfolding stack
-returns c = c.copied.ensures ∙ nth_from_yields_List c.nth.result _ c.args.i c.nth.ensures.ran (YieldsList-from_rev_slice (vec_items c.args.list.now) cc)
+returns c = stack_at c.args.list.now c.args.i _ (search rules) (search rules)
