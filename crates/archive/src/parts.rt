@@ -71,7 +71,11 @@ fn add_names(body: &mut Body, cells: &[Cell], names: &[Option<u16>])
 fn after<C: Copy>(store: &Store<'_, C>, k: u16) -> Option<u16>
     ensures { result ≡ after (world store.now).free k }
 {
-    let at = (0..store.cells().len()).find(|i| store.free_cell(*i) == Some(k))?;
+    // the search stops at the list's end too, after which comes nothing
+    let at = (0..store.cells().len()).find(|i| {
+        let cell = store.free_cell(*i);
+        cell.is_none() || cell == Some(k)
+    })?;
     store.free_cell(at + 1)
 }
 
