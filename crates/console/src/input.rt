@@ -5,6 +5,9 @@ use std::io::{BufRead, BufReader, Read, Stdin};
 // Longer lines are told and passed over.
 const LONGEST: usize = 400;
 
+// So many bytes of what is left of a line are passed over at once.
+const PIECE: u64 = 4096;
+
 /// Why a line is passed over.
 #[derive(Clone, Copy, PartialEq, Eq, Debug)]
 pub enum BadLine {
@@ -51,7 +54,9 @@ impl Lines {
         self.number = self.number.saturating_add(1);
         let ended = self.bytes.pop_if(|byte| *byte == b'\n').is_some();
         if self.bytes.len() > LONGEST {
-            input.skip_until(b'\n')?;
+            if !has_end(input, &mut self.bytes)? {
+                self.input = None;
+            }
             return Ok(Some((self.number, Err(BadLine::TooLong))));
         }
         if !ended {
@@ -59,6 +64,23 @@ impl Lines {
         }
         Ok(Some((self.number, text_of(self.bytes.as_slice()))))
     }
+}
+
+// Passes over what is left of a line, piece by piece; answers whether the line has an end. Input that has none is not
+// asked again, since a terminal would wait for more.
+fn has_end(input: &mut BufReader<Stdin>, piece: &mut Vec<u8>) -> anyhow::Result<bool> {
+    // kept: a loop over input has no measure but a count
+    for _ in 0..u64::MAX {
+        piece.clear();
+        let read = input.by_ref().take(PIECE).read_until(b'\n', piece)?;
+        if piece.last() == Some(&b'\n') {
+            return Ok(true);
+        }
+        if (read as u64) < PIECE {
+            return Ok(false);
+        }
+    }
+    Ok(false)
 }
 
 // What stands before a '#', as text.
