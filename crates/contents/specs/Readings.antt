@@ -25,10 +25,28 @@ module _ {X : Type 0} (form : X → List ℕ) where
       let t : bytes_eq (form x) (form x) ≡ true = (bytes_eq-Decides (form x) (form x)).1 refl in
       ap (kept form (form x)) e ∙ rw t refl
 
+  -- what a reading comes to, by its candidate
+  pub read_none : (bs : List ℕ) (o : Option X) → o ≡ None → None ≡ kept form bs o
+  read_none bs o e = sym (ap (kept form bs) e)
+
+  pub read_same : (bs : List ℕ) (o : Option X) (x : X) → o ≡ Some x → true ≡ bytes_eq (form x) bs → Some x ≡ kept form bs o
+  read_same bs o x e t = sym (ap (kept form bs) e ∙ ap (λ b. cond b (Some x) None) (sym t))
+
+  pub read_other : (bs : List ℕ) (o : Option X) (x : X) → o ≡ Some x → false ≡ bytes_eq (form x) bs → None ≡ kept form bs o
+  read_other bs o x e t = sym (ap (kept form bs) e ∙ ap (λ b. cond b (Some x) None) (sym t))
+
+-- what a making answered, as an option again
+pub made : {X E : Type 0} (o : Option X) (e : E) (x : X) → Ok x ≡ ok_or o e → o ≡ Some x
+made None e x q = let z : ◌≡◌ {A = ℕ} 0 1 = cc in absurd (omega arith)
+made (Some y) e x q = cc
+
 -- what a making that was refused says
 pub refused_with : {X E : Type 0} (o : Option X) (e y : E) → Err y ≡ ok_or o e → (o ≡ None) × (y ≡ e)
 refused_with None e y q = (refl, cc)
 refused_with (Some x) e y q = let z : ◌≡◌ {A = ℕ} 0 1 = cc in absurd (omega arith)
+
+pub refused : {X E : Type 0} (o : Option X) (e y : E) → Err y ≡ ok_or o e → o ≡ None
+refused o e y q = (refused_with o e y q).0
 
 -- and the other way
 pub refuses : {X E : Type 0} (o : Option X) (e : E) → o ≡ None → Err e ≡ ok_or o e
