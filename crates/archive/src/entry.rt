@@ -1,7 +1,7 @@
 //! A cell of an archive, and what its bytes say.
 ghost use Rattle.std.specs.Prelude.{◌≡◌, ◌+◌, ◌<◌, length, take, drop};
 ghost use Rattle.archive.specs.Runs.{every};
-ghost use Rattle.archive.specs.Bytes.{spot, serial_in, form_in, link_in, rest_in, next_in};
+ghost use Rattle.archive.specs.Bytes.{spot, unname, serial_in, form_in, link_in, rest_in};
 ghost use Rattle.archive.specs.Rules.{is_blank, name_right, cell_right};
 ghost use Rattle.archive.specs.Reading.{cell_in, value_in};
 
@@ -49,11 +49,12 @@ impl<'a> Entry<'a> {
         &self.record()[20..28]
     }
 
-    /// What link 0 names: of a free cell, the free cell after it.
-    pub(crate) fn next(&self) -> Option<u16>
-        ensures { result ≡ next_in self.now.pages.bytes.now self.now.k }
+    /// What link i names. Link 0 of a free cell names the free cell after it.
+    pub(crate) fn link(&self, i: usize) -> Option<u16>
+        requires { i < 4 }
+        ensures { result ≡ unname (link_in self.now.pages.bytes.now self.now.k i) }
     {
-        unnamed(u16::from_le_bytes(bytes_at(self.links(), 0)))
+        unnamed(u16::from_le_bytes(bytes_at(self.links(), 2 * i)))
     }
 
     // Whether the six bytes after link 0 are zeros.

@@ -65,7 +65,7 @@ impl Pages<'_> {
             return;
         };
         if left > 0 && self.is_free(k as usize) {
-            self.list_chain(self.entry(k as usize).next(), left - 1, free);
+            self.list_chain(self.entry(k as usize).link(0), left - 1, free);
             free.push_reserved(k);
         }
     }

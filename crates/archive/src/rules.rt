@@ -120,7 +120,7 @@ impl Pages<'_> {
             Some(k) => {
                 left > 0
                     && self.is_free(k as usize)
-                    && self.follow(self.entry(k as usize).next(), left - 1)
+                    && self.follow(self.entry(k as usize).link(0), left - 1)
             }
         }
     }

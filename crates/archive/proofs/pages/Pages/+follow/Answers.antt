@@ -20,7 +20,7 @@ returns-then-is_free t c =
     let k = c.in-Some.k in
     elim c.if-left-gt0.branch [
       | then-left-gt0 w ↦
-          c.follow.ensures ∙ ap (follows next free (c.args.left - 1)) (c.next.ensures ∙ there next_in p c.entry.result k c.entry.ensures.of c.entry.ensures.at)
+          c.follow.ensures ∙ ap (follows next free (c.args.left - 1)) (c.link.ensures ∙ there next_in p c.entry.result k c.entry.ensures.of c.entry.ensures.at)
           ∙ follows_more next free c.args.left k (λ z. omega (arith, w.if-left-gt0.true)) (sym w.is_free.ensures ∙ sym w.value-is ∙ c.if-is_free.true)
           ∙ ap (follows next free c.args.left) (sym c.in-Some.is)
       | else-left-gt0 w ↦ absurd (omega (arith, ltb-true 0 c.args.left (sym w.value-is ∙ c.if-is_free.true), w.if-left-gt0.false))

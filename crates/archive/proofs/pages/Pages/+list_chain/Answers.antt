@@ -20,7 +20,7 @@ returns-then-is_free-clause-does t c =
     let next = next_in p.bytes.now in
     let free = free_in p.bytes.now p.head.cells in
     let k = c.in-Some.k in
-    stack_push c.list_chain.new.free c.push_reserved.new.self k c.push_reserved.ensures.items ∙ ap (λ l. k ∷ l) (c.list_chain.ensures.does ∙ ap (chain_from next free (c.args.left - 1)) (c.next.ensures ∙ there next_in p c.entry.result k c.entry.ensures.of c.entry.ensures.at))
+    stack_push c.list_chain.new.free c.push_reserved.new.self k c.push_reserved.ensures.items ∙ ap (λ l. k ∷ l) (c.list_chain.ensures.does ∙ ap (chain_from next free (c.args.left - 1)) (c.link.ensures ∙ there next_in p c.entry.result k c.entry.ensures.of c.entry.ensures.at))
     ∙ chain_more next free c.args.left k (λ z. omega (arith, c.if-left-gt0.true)) (sym c.if-is_free.ensures)
     ∙ ap (chain_from next free c.args.left) (sym c.in-Some.is)
 
