@@ -1,5 +1,5 @@
 -- The free list, cell by cell.
-use Rattle.std.proofs.Common.{◌≡◌, ℕ, zero, suc, ◌<◌, ◌≤◌, true, false, eqb, List, [], ◌∷◌, length, Some, None, vec_items, vec_len, Vec, sym, refl, ap, ◌∙◌, arith}
+use Rattle.std.proofs.Common.{◌≡◌, ℕ, zero, suc, ◌<◌, ◌≤◌, true, false, eqb, List, [], ◌∷◌, length, drop, Some, None, vec_items, vec_len, Vec, sym, refl, ap, ◌∙◌, arith}
 use Rattle.std.specs.List.{slice_get}
 use Rattle.std.proofs.lemmas.Bool.{eq-eqb, ne_eqb}
 use Rattle.std.proofs.lemmas.List.{length-reverse}
@@ -9,6 +9,28 @@ use Rattle.store.specs.World.{world}
 use Rattle.store.proofs.Cells.{spares_most}
 use Rattle.store.specs.declared.whole.Store.{Store}
 use Rattle.archive.specs.Layout.{after}
+
+-- what comes after a cell, going through the list place by place
+pub after_end : (l : List ℕ) (i k : ℕ) → slice_get l i ≡ None → after (drop i l) k ≡ None
+unfolding after
+after_end [] zero k e = refl
+after_end [] (suc i) k e = refl
+after_end (x ∷ l) zero k e = absurd (none-some x (sym e))
+after_end (x ∷ l) (suc i) k e = after_end l i k e
+
+pub after_here : (l : List ℕ) (i x k : ℕ) → Some x ≡ slice_get l i → x ≡ k → after (drop i l) k ≡ slice_get l (suc i)
+unfolding after
+after_here [] zero x k e q = absurd (none-some x (sym e))
+after_here [] (suc i) x k e q = absurd (none-some x (sym e))
+after_here (y ∷ l) zero x k e q = let p : y ≡ k = cc in let t : eqb y k ≡ true = eq-eqb y k p in rw t
+after_here (y ∷ l) (suc i) x k e q = after_here l i x k e q
+
+pub after_on : (l : List ℕ) (i x k : ℕ) → Some x ≡ slice_get l i → (x ≡ k → ⊥) → after (drop i l) k ≡ after (drop (suc i) l) k
+unfolding after
+after_on [] zero x k e q = absurd (none-some x (sym e))
+after_on [] (suc i) x k e q = absurd (none-some x (sym e))
+after_on (y ∷ l) zero x k e q = let p : x ≡ y = cc in let t : eqb y k ≡ false = ne_eqb y k (λ z. q (p ∙ z)) in rw t
+after_on (y ∷ l) (suc i) x k e q = after_on l i x k e q
 
 -- what comes after the first place that holds a cell, and nothing after a cell that no place holds
 pub after_first : (l : List ℕ) (k i : ℕ) → slice_get l i ≡ Some k → ((j : ℕ) → j < i → slice_get l j ≡ Some k → ⊥) → after l k ≡ slice_get l (suc i)

@@ -1,5 +1,6 @@
 -- The chain of free cells as it is listed.
-use Rattle.std.proofs.Common.{◌≡◌, ℕ, zero, suc, ◌-◌, Bool, true, false, [], ◌∷◌, Some, None, Option, refl, arith}
+use Rattle.std.proofs.Common.{◌≡◌, ℕ, zero, suc, ◌-◌, ◌≤◌, Bool, true, false, [], ◌∷◌, length, Some, None, Option, refl, inl, inr, arith}
+use Rattle.std.proofs.lemmas.Bool.{cases_Bool}
 use Rattle.archive.specs.Reading.{chain_from}
 
 module _ (next : ℕ → Option ℕ) (free : ℕ → Bool) where
@@ -22,3 +23,10 @@ module _ (next : ℕ → Option ℕ) (free : ℕ → Bool) where
   unfolding chain_from
   chain_more zero k z e = absurd (z refl)
   chain_more (suc f) k z e = let m : suc f - 1 ≡ f = omega arith in rw (e, m)
+
+  -- no longer than it may get
+  pub chain_short : (f : ℕ) (o : Option ℕ) → length (chain_from next free f o) ≤ f
+  unfolding chain_from
+  chain_short zero o = omega arith
+  chain_short (suc f) None = omega arith
+  chain_short (suc f) (Some k) = elim (cases_Bool (free k)) [ inl e ↦ rw e (omega (arith, chain_short f (next k))) | inr e ↦ rw e (omega arith) ]

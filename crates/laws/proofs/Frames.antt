@@ -104,6 +104,11 @@ alter_card-length ks c f = length-set ks c (f (get_or ks c blank_card))
 
 -- ---- names
 
+pub read_all-length : {C : Type 0} (w : World C) (vs : List Name) → length (read_all w vs) ≡ length vs
+unfolding read_all
+read_all-length w [] = refl
+read_all-length w (v ∷ vs) = ap suc (read_all-length w vs)
+
 pub read_all-at : {C : Type 0} (w : World C) (vs : List Name) (i : ℕ) → get_or (read_all w vs) i None ≡ named w (get_or vs i None)
 unfolding read_all
 read_all-at w [] i = refl

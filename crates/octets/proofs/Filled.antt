@@ -48,6 +48,17 @@ seal b n a out body x y w z q ea ha ex ey ew ez eq lo =
     let ll : length (((le16 b ++ le16 n) ++ body) ++ s) ≡ 508 = length-append ((le16 b ++ le16 n) ++ body) s ∙ omega (arith, length-replicate {A = ℕ} (504 - length body) 0) in
     full (put_mid 508 4 o4 q) 512 (put_next 508 4 512 o4 q t4 eq' (ap (λ l. 508 + length l) (sym eq')) (reach 508 o4 _ t4 ll)) lo
 
+-- the same of any buffer, once number, count and body stand in it: zeros and the check follow
+pub seal_last : (b n a k : ℕ) (body o z o₂ o₃ q : List ℕ) (sum : ℕ) → take a o ≡ le16 b ++ (le16 n ++ body) → a ≡ 4 + length body → a ≤ 508 → length o ≡ 512 → z ≡ replicate (508 - a) 0
+    → o₂ ≡ put_mid a k o z → sum ≡ check_of (take 508 o₂) → q ≡ le32 sum → length q ≡ 4 → take (508 + length q) o₃ ≡ take 508 o₂ ++ q → length o₃ ≡ 512 → o₃ ≡ block_of b n body
+unfolding block_of
+seal_last b n a k body o z o₂ o₃ q sum e ea ha lo ez e₂ es eq lq e₃ l₃ =
+    let w : List ℕ = le16 b ++ (le16 n ++ (body ++ replicate (504 - length body) 0)) in
+    let m : 508 - a ≡ 504 - length body = omega arith in
+    let lz : length z ≡ 508 - a = ap length ez ∙ length-replicate (508 - a) 0 in
+    let t : take 508 o₂ ≡ w = ap (take 508) e₂ ∙ put_next a k 508 o z e (ez ∙ ap (λ i. replicate i 0) m) (omega arith) (omega arith) in
+    full o₃ 512 (fill 508 4 o₂ o₃ t e₃ lq (eq ∙ ap le32 (es ∙ ap check_of t))) l₃
+
 -- what a writing and an opening come to once their tests are decided
 pub written : (out o body : List ℕ) (b n : ℕ) → length out ≡ 512 → length body ≤ 504 → o ≡ block_of b n body → (Ok tt, o) ≡ writing out b n body
 written out o body b n l h e =

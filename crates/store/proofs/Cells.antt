@@ -1,5 +1,5 @@
 -- Cells changed in place, and how many of them are spare.
-use Rattle.std.proofs.Common.{◌≡◌, ℕ, zero, suc, ◌+◌, ◌<◌, ◌≤◌, true, false, cond, List, [], ◌∷◌, length, get_or, set, refl, ap, ◌∙◌, arith, None, Some}
+use Rattle.std.proofs.Common.{◌≡◌, ℕ, zero, suc, ◌+◌, ◌<◌, ◌≤◌, true, false, cond, List, [], ◌∷◌, length, map, get_or, set, refl, ap, ◌∙◌, arith, None, Some}
 use Rattle.std.proofs.lemmas.Bool.{false≢true, not-true, or_parts}
 use Rattle.machine.specs.declared.types.Colour.{Colour}
 use Rattle.machine.specs.declared.types.Record.{Record}
@@ -65,6 +65,11 @@ pale_spare m (Some r) e = ap {B = ℕ} (λ b. cond b 1 0) (or_parts (same_colour
 
 pub spares_freed : (m : Colour) (h : List Cell) (x : ℕ) → pale m (get_or h x None) ≡ true → x < length h → spares (set h x None) ≡ spares h + 1
 spares_freed m h x e l = omega (arith, spares_set h x None l, pale_spare m (get_or h x None) e)
+
+pub alter_all-map : (h : List Cell) (f : Record → Record) → map (alter f) h ≡ alter_all h f
+unfolding alter_all
+alter_all-map [] f = refl
+alter_all-map (c ∷ h) f = ap (λ t. alter f c ∷ t) (alter_all-map h f)
 
 same_all : (f : Record → Record) → ((r : Record) → (f r).waiting ≡ r.waiting) → (c : Cell) → spare (alter f c) ≡ spare c
 same_all f k None = refl
